@@ -1,0 +1,4 @@
+-- Laws of the definitions in specs/, for this crate and those above it.
+pub mod Laws
+pub mod Numbers
+pub mod Tables

@@ -1,0 +1,4 @@
+-- Byte strings, words and lists given by a rule.
+pub mod Octets
+pub mod Word
+pub mod Table
