@@ -1,4 +1,5 @@
 -- Byte strings, words and lists given by a rule.
+pub mod Limits
 pub mod Octets
 pub mod Word
 pub mod Table

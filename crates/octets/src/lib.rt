@@ -1,4 +1,6 @@
-// Byte strings: the functions on slices that several crates call.
+// Byte strings: the functions on slices that several crates call, and document 01's limits.
+pub mod limits;
+
 ghost use mathlib.Core.Path.{_≡_};
 ghost use Prim.Native.Nat.{_+_, _≤_, _<_};
 ghost use lib.ListN.{length, replicate};

@@ -1,0 +1,52 @@
+-- Document 01's limits and lengths, each named here and, for the code, in src/limits.rt, and nowhere else written as a numeral.
+-- Lengths are in bytes; a word is 4.
+use Prim.Native.Nat.{ℕ}
+
+-- ---- the ring
+abbrev pub pages-least : ℕ
+pages-least = 3
+
+abbrev pub pages-limit : ℕ
+pages-limit = 32
+
+abbrev pub slots-least : ℕ
+slots-least = 2
+
+abbrev pub slots-limit : ℕ
+slots-limit = 512
+
+abbrev pub slot-length : ℕ
+slot-length = 16
+
+-- ---- the FRAM
+abbrev pub fram-least : ℕ
+fram-least = 88
+
+abbrev pub fram-limit : ℕ
+fram-limit = 131072
+
+-- its length is a multiple of this
+abbrev pub fram-step : ℕ
+fram-step = 8
+
+-- ---- a checkpoint
+-- each part's limit, and the least length of a state buffer
+abbrev pub part-limit : ℕ
+part-limit = 4096
+
+abbrev pub restart-limit : ℕ
+restart-limit = 8
+
+-- ---- the cipher
+abbrev pub key-length : ℕ
+key-length = 32
+
+abbrev pub nonce-length : ℕ
+nonce-length = 12
+
+abbrev pub tag-length : ℕ
+tag-length = 16
+
+-- the limit of a text and of associated data, sealed and opened alone
+abbrev pub text-limit : ℕ
+text-limit = 65536

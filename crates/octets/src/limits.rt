@@ -1,0 +1,33 @@
+// Document 01's limits and lengths, as in specs/Limits.antt. Lengths are in bytes; a word is 4.
+
+// The ring.
+pub const PAGES_LEAST: usize = 3;
+
+pub const PAGES_LIMIT: usize = 32;
+
+pub const SLOTS_LEAST: usize = 2;
+
+pub const SLOTS_LIMIT: usize = 512;
+
+pub const SLOT_LENGTH: usize = 16;
+
+// The FRAM; its length is a multiple of FRAM_STEP.
+pub const FRAM_LEAST: usize = 88;
+
+pub const FRAM_LIMIT: usize = 131_072;
+
+pub const FRAM_STEP: usize = 8;
+
+// A checkpoint: each part's limit is also the least length of a state buffer.
+pub const PART_LIMIT: usize = 4096;
+
+pub const RESTART_LIMIT: usize = 8;
+
+// The cipher; TEXT_LIMIT is that of a text and of associated data, sealed and opened alone.
+pub const KEY_LENGTH: usize = 32;
+
+pub const NONCE_LENGTH: usize = 12;
+
+pub const TAG_LENGTH: usize = 16;
+
+pub const TEXT_LIMIT: usize = 65_536;
