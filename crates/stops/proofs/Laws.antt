@@ -1,0 +1,90 @@
+-- Laws of `first-of`: conditions tried one at a time, and what is known where none holds. Assumes nothing.
+use Prim.Native.Nat.{ℕ, _-_}
+use mathlib.Core.Path.{_≡_, refl, sym, ap, _∙_}
+use mathlib.Core.Bool.{Bool, true, false, cond, _||_}
+use mathlib.Core.Option.{Option, none, some}
+use mathlib.Core.List.{List, [], _∷_, _++_}
+use native.Mathlib.Omega.{arith}
+use lib.ListN.{getD}
+use Rattle.stops.specs.Stops.{first-of, then-stop}
+use Rattle.stops.specs.View.{stop-number}
+use Rattle.stops.specs.declared.Stop.{Stop}
+use Rattle.stops.specs.declared.Stop.the-variants.{RingSize, FramSize, KeyNonceTagSize, BufferSize, RingInUse, RingBlank, RingUnreadable, StaleSession, PagePending, NonceUsed, BadHead, TagDiffers, RestartLimit, BadJob}
+
+-- the conditions of a list tried in turn, from what was found before them
+unfoldable pub tried : Option ℕ → List (ℕ × Bool) → Option ℕ
+tried o [] = o
+tried o (c ∷ more) = tried (then-stop o (c .0) (c .1)) more
+
+-- a stop stays
+stays : (s : ℕ) (cs : List (ℕ × Bool)) → tried (some s) cs ≡ some s
+unfolding tried
+stays s [] = refl
+stays s (c ∷ cs) = stays s cs
+
+tried-cond : (b : Bool) (n : ℕ) (cs : List (ℕ × Bool)) → tried none cs ≡ first-of cs → tried (cond b (some n) none) cs ≡ cond b (some n) (first-of cs)
+tried-cond true n cs e = stays n cs
+tried-cond false n cs e = e
+
+pub tried-first : (cs : List (ℕ × Bool)) → tried none cs ≡ first-of cs
+unfolding tried first-of
+tried-first [] = refl
+tried-first (c ∷ cs) = tried-cond (c .1) (c .0) cs (tried-first cs)
+
+-- a list in two stages: the second is tried where the first finds nothing
+pub first-append : (xs ys : List (ℕ × Bool)) {o : Option ℕ} → first-of xs ≡ o → first-of (xs ++ ys) ≡ tried o ys
+unfolding tried
+first-append xs ys e = sym (tried-first (xs ++ ys)) ∙ split none xs ∙ ap (λ (o : Option ℕ). tried o ys) (tried-first xs ∙ e)
+  where
+    split : (o : Option ℕ) (xs : List (ℕ × Bool)) → tried o (xs ++ ys) ≡ tried (tried o xs) ys
+    split o [] = refl
+    split o (x ∷ xs) = split (then-stop o (x .0) (x .1)) xs
+
+-- none of the conditions holds
+abbrev pub Passes : List (ℕ × Bool) → Type 0
+Passes [] = Unit {0}
+Passes (c ∷ cs) = (c .1 ≡ false) × Passes cs
+
+passes-cond : (b : Bool) (n : ℕ) {o : Option ℕ} → cond b (some n) o ≡ none → (b ≡ false) × (o ≡ none)
+passes-cond true n e = let z : _≡_ {A = ℕ} 0 1 = cc in absurd (omega arith)
+passes-cond false n e = (refl, e)
+
+pub passes : (cs : List (ℕ × Bool)) → first-of cs ≡ none → Passes cs
+unfolding first-of
+passes [] e = tt
+passes (c ∷ cs) e =
+    let p = passes-cond (c .1) (c .0) e in
+    (p .0, passes cs (p .1))
+
+pub neither : (a b : Bool) → a || b ≡ false → (a ≡ false) × (b ≡ false)
+neither true b e = let z : _≡_ {A = ℕ} 0 1 = cc in absurd (omega arith)
+neither false b e = (refl, e)
+
+-- the stops in the order of their numbers, from 1 on: no two have one number
+stops : List Stop
+stops =
+    RingSize ∷ FramSize ∷ KeyNonceTagSize ∷ BufferSize ∷ RingInUse ∷ RingBlank ∷ RingUnreadable ∷ StaleSession ∷ PagePending ∷ NonceUsed
+    ∷ BadHead ∷ TagDiffers ∷ RestartLimit ∷ BadJob ∷ []
+
+stop-of : ℕ → Stop
+stop-of n = getD stops (n - 1) RingSize
+
+back : (s : Stop) → stop-of (stop-number s) ≡ s
+unfolding stop-of stops
+back RingSize = refl
+back FramSize = refl
+back KeyNonceTagSize = refl
+back BufferSize = refl
+back RingInUse = refl
+back RingBlank = refl
+back RingUnreadable = refl
+back StaleSession = refl
+back PagePending = refl
+back NonceUsed = refl
+back BadHead = refl
+back TagDiffers = refl
+back RestartLimit = refl
+back BadJob = refl
+
+pub stop-number-injective : (s t : Stop) → stop-number s ≡ stop-number t → s ≡ t
+stop-number-injective s t e = sym (back s) ∙ ap stop-of e ∙ back t

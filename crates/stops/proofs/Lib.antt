@@ -1,0 +1,2 @@
+-- Laws of the list of stops.
+pub mod Laws

@@ -1,0 +1,3 @@
+-- Document 01's stops.
+pub mod Stops
+pub mod View

@@ -1,0 +1,68 @@
+// Document 01's stops, by name, and the trying of conditions in its order.
+ghost use mathlib.Core.Path.{_≡_};
+ghost use Rattle.stops.specs.Stops.{then-stop};
+ghost use Rattle.stops.specs.View.{stop-number, check-number};
+
+// Why an operation stopped: document 01's numbers 1 to 14.
+pub enum Stop {
+    RingSize,
+    FramSize,
+    KeyNonceTagSize,
+    BufferSize,
+    RingInUse,
+    RingBlank,
+    RingUnreadable,
+    StaleSession,
+    PagePending,
+    NonceUsed,
+    BadHead,
+    TagDiffers,
+    RestartLimit,
+    BadJob,
+}
+
+// What an operation's checks say.
+pub enum Check {
+    Pass,
+    Stopped(Stop),
+}
+
+// Document 01's number of a stop.
+pub fn stop_number(stop: Stop) -> u32
+    ensures { λ r. ⌜ r ≡ stop-number stop ⌝ }
+{
+    match stop {
+        Stop::RingSize => 1,
+        Stop::FramSize => 2,
+        Stop::KeyNonceTagSize => 3,
+        Stop::BufferSize => 4,
+        Stop::RingInUse => 5,
+        Stop::RingBlank => 6,
+        Stop::RingUnreadable => 7,
+        Stop::StaleSession => 8,
+        Stop::PagePending => 9,
+        Stop::NonceUsed => 10,
+        Stop::BadHead => 11,
+        Stop::TagDiffers => 12,
+        Stop::RestartLimit => 13,
+        Stop::BadJob => 14,
+    }
+}
+
+impl Check {
+    // The stop if `wrong`, where the conditions before have passed.
+    pub fn stop_if(self, wrong: bool, stop: Stop) -> Check
+        ensures { λ r. ⌜ check-number r ≡ then-stop (check-number self) (stop-number stop) wrong ⌝ }
+    {
+        match self {
+            Check::Stopped(first) => Check::Stopped(first),
+            Check::Pass => {
+                if wrong {
+                    Check::Stopped(stop)
+                } else {
+                    Check::Pass
+                }
+            }
+        }
+    }
+}
