@@ -1,0 +1,2 @@
+-- Lines of hexadecimal fields.
+pub mod Lines
