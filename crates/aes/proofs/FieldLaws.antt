@@ -1,4 +1,4 @@
--- What follows from the definitions of the field: FIPS 197's examples, products by 02 and 03, and that the inverse is one.
+-- What follows from the definitions of the field: the standard's examples, the products by 02 and 03, and that the inverse is one.
 -- Assumes nothing.
 use mathlib.Core.Path.{_≡_, refl, sym, _∙_, ap}
 use mathlib.Core.List.{List}
@@ -10,14 +10,14 @@ use Rattle.octets.specs.Table.{table}
 use Rattle.octets.proofs.Tables.{getD-table}
 use Rattle.aes.specs.Field.{_⊕_, xtime, times, _•_, power, inverse, turned, affine, sub-byte}
 
--- section 4.2, and the S-box at 53
-product : 0x57 • 0x13 ≡ 0xfe
+-- FIPS 197, section 4.2 and figure 7
+pub product : 0x57 • 0x13 ≡ 0xfe
 unfolding _•_ times xtime
 product = refl
 
-substitute : sub-byte 0x53 ≡ 0xed
+pub substituted : sub-byte 0x53 ≡ 0xed
 unfolding _•_ times xtime power inverse turned affine sub-byte
-substitute = refl
+substituted = refl
 
 pub twice : (b : ℕ) → 0x02 • b ≡ xtime b
 unfolding _•_ times xtime
@@ -26,6 +26,10 @@ twice b = xor-zero-r (xtime b)
 pub thrice : (b : ℕ) → 0x03 • b ≡ xtime b ⊕ b
 unfolding _•_ times xtime
 thrice b = refl
+
+pub inverse-zero : inverse 0 ≡ 0
+unfolding _•_ times xtime power inverse
+inverse-zero = refl
 
 -- each byte from 1 to 255, times its inverse
 inverses : table 255 (λ i. suc i • inverse (suc i)) ≡ replicate 255 1

@@ -1,15 +1,15 @@
 -- Laws of the key schedule's words.
 -- Assumes nothing.
-use mathlib.Core.Path.{_≡_, refl, sym, ap, ap₂, _∙_}
+use mathlib.Core.Path.{_≡_, refl, ap, ap₂, _∙_}
 use mathlib.Core.Bool.{Bool, true, false, cond}
 use mathlib.Core.List.{List, _++_}
 use Prim.Native.Nat.{ℕ, zero, suc, _+_, _-_, _*_, _/_, _<_, _≤_}
-use native.Mathlib.Nat.{div-lt-iff-lt-mul, le-div-iff-mul-le, one-mul, zero-add}
+use native.Mathlib.Nat.{div-lt-iff-lt-mul, le-div-iff-mul-le, one-mul}
 use native.Mathlib.Numerals.{add-one, add-two, add-three}
 use native.Mathlib.Omega.{arith}
 use lib.Dec.{ltb}
-use lib.ListN.{length, getD, set, take, drop, replicate, length-append, length-replicate, List·getD-append}
-use lib.Seq.{take-length, sets, sets-eq, paste-suc, take-append-seam, drop-append-add}
+use lib.ListN.{length, getD, set, drop, replicate, length-append, length-replicate, List·getD-append}
+use lib.Seq.{sets, sets-eq, take-append-seam, drop-append-add}
 use borrow.Author.Tests.{ltb-false}
 use Rattle.octets.specs.Table.{table}
 use Rattle.octets.proofs.Tables.{is-table, table-ext}

@@ -9,7 +9,7 @@ use lib.ListN.{getD}
 use Rattle.octets.specs.Table.{table}
 use Rattle.octets.proofs.Tables.{table-ext}
 use Rattle.aes.specs.Field.{_⊕_, sub-byte}
-use Rattle.aes.specs.State.{byte, sub-bytes, shift-rows, mix-column, mix-columns, add-round-key}
+use Rattle.aes.specs.State.{sub-bytes, shift-rows, mix-column, mix-columns, add-round-key}
 use Rattle.aes.specs.Key.{word, xor-word}
 use Rattle.aes.specs.Cipher.{rounds}
 

@@ -1,5 +1,4 @@
 -- The state and the steps of a round: FIPS 197, sections 3.4 and 5.1. The state is 4 rows and 4 columns of bytes, and stands as the list of its columns.
--- Assumes nothing.
 use mathlib.Core.List.{List, [], _∷_}
 use Prim.Native.Nat.{ℕ, _+_, _*_, _/_, _%_}
 use lib.ListN.{getD}

@@ -1,6 +1,6 @@
 // The key expansion. A word is four bytes, and the schedule's words stand one after the other in 240 bytes, those past its end 0.
-use super::bytes::sbox;
-use super::bytes::sub_byte;
+use super::substitution::sbox;
+use super::substitution::sub_byte;
 ghost use mathlib.Core.Path.{_≡_};
 ghost use Prim.Native.Nat.{_+_, _-_, _*_, _<_, _≤_};
 ghost use lib.ListN.{length};

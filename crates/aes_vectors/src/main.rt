@@ -3,8 +3,6 @@
 use libc::STDOUT_FILENO;
 use vectors::decode;
 use vectors::until;
-ghost use Prim.Native.Nat.{_≤_};
-ghost use lib.ListN.{length};
 
 const LINE_FEED: u8 = 0x0A;
 

@@ -1,6 +1,6 @@
-// Bytes of the field GF(2^8): the S-box and doubling.
+// The substitution table of FIPS 197, section 5.1.1.
 ghost use mathlib.Core.Path.{_≡_};
-ghost use Rattle.aes.specs.Field.{xtime, sub-byte};
+ghost use Rattle.aes.specs.Field.{sub-byte};
 ghost use Rattle.octets.specs.Table.{table};
 
 const SBOX: [u8; 256] = [
@@ -262,23 +262,18 @@ const SBOX: [u8; 256] = [
     0x16,
 ];
 
-// The S-box, to be lent to whoever looks bytes up: a constant is made anew, byte by byte, in each function that names it.
+// The table, of which every entry obeys the standard's rule: the inverse in the field, then the affine step.
+// A constant is made anew in each function that names it, so it is made here and lent to whoever looks bytes up.
 pub fn sbox() -> [u8; 256]
     ensures { λ r. ⌜ r ≡ table 256 sub-byte ⌝ }
 {
     SBOX
 }
 
-// A look in the S-box.
+// A look in the table.
 pub fn sub_byte(sbox: &[u8; 256], x: u8) -> u8
     requires { ⌜ now sbox ≡ table 256 sub-byte ⌝ }
     ensures { λ r. ⌜ r ≡ sub-byte x ⌝ }
 {
     sbox[x as usize]
-}
-
-pub fn xtime(b: u8) -> u8
-    ensures { λ r. ⌜ r ≡ xtime b ⌝ }
-{
-    (b << 1) ^ ((b >> 7) * 0x1b)
 }

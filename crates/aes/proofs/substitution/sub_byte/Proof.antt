@@ -1,11 +1,10 @@
--- `aes::bytes::sub_byte` meets its contract: a byte is below 256, and the table has its image there.
+-- `aes::substitution::sub_byte` meets its contract: a byte is below 256, and the table has its image there.
 -- Assumes nothing.
-use mathlib.Core.Path.{_≡_}
 use borrow.Author.Needs.{needs}
 use Rattle.octets.proofs.Tables.{getD-table}
 use Rattle.aes.specs.Field.{sub-byte}
-use Rattle.aes.proofs.bytes.sub_byte.Statement.{statement}
-use Rattle.aes.proofs.bytes.sub_byte.Tie as tie
+use Rattle.aes.proofs.substitution.sub_byte.Statement.{statement}
+use Rattle.aes.proofs.substitution.sub_byte.Tie as tie
 
 element-copy-out-result : tie.Need-element-copy-out-result
 element-copy-out-result c = search needs
