@@ -2,7 +2,10 @@
 pub mod SizeLaws
 pub mod TurnLaws
 pub mod RecordLaws
+pub mod SlotLaws
 pub mod PageLaws
 pub mod ReadLaws
 pub mod RingLaws
 pub mod FoundLaws
+pub mod Exactly
+pub mod NewestLaws

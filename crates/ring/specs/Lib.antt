@@ -1,2 +1,3 @@
 -- The nonce ring in flash.
 pub mod Ring
+pub mod Readable
