@@ -21,12 +21,12 @@ use Rattle.ring.proofs.ReadLaws.{used-none, used-one, used-two}
 -- ---- the list of used pages, taken apart
 
 -- page p is the first used one of the `left` pages from `page` on, and `rest` are those behind it
-record FirstUsed (ring : List ℕ) (slots page left p : ℕ) (rest : List ℕ) : Type 0 where
-  low : page ≤ p
-  high : p < page + left
-  used : blank (page-at ring slots p) ≡ false
-  skipped : (q : ℕ) → page ≤ q → q < p → blank (page-at ring slots q) ≡ true
-  more : used-from ring slots (suc p) (page + left - suc p) ≡ rest
+pub record FirstUsed (ring : List ℕ) (slots page left p : ℕ) (rest : List ℕ) : Type 0 where
+  pub low : page ≤ p
+  pub high : p < page + left
+  pub used : blank (page-at ring slots p) ≡ false
+  pub skipped : (q : ℕ) → page ≤ q → q < p → blank (page-at ring slots q) ≡ true
+  pub more : used-from ring slots (suc p) (page + left - suc p) ≡ rest
 
 module _ (ring : List ℕ) (slots : ℕ) where
   none-used : (left page : ℕ) → used-from ring slots page left ≡ [] → (q : ℕ) → page ≤ q → q < page + left → blank (page-at ring slots q) ≡ true
@@ -44,7 +44,7 @@ module _ (ring : List ℕ) (slots : ℕ) where
           at false i = more e q (omega (arith, eqb-false q page i)) (omega arith)
       go false b e more = let z : _≡_ {A = ℕ} 0 1 = cc in absurd (omega arith)
 
-  first-used : (left page p : ℕ) (rest : List ℕ) → used-from ring slots page left ≡ p ∷ rest → FirstUsed ring slots page left p rest
+  pub first-used : (left page p : ℕ) (rest : List ℕ) → used-from ring slots page left ≡ p ∷ rest → FirstUsed ring slots page left p rest
   unfolding used-from
   first-used zero page p rest e = let z : _≡_ {A = ℕ} 0 1 = cc in absurd (omega arith)
   first-used (suc left) page p rest e = go (blank (page-at ring slots page)) refl e (λ e. first-used left (suc page) p rest e)

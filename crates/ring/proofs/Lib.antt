@@ -9,3 +9,6 @@ pub mod RingLaws
 pub mod FoundLaws
 pub mod Exactly
 pub mod NewestLaws
+pub mod ViewLaws
+mod StepLaws
+mod PassLaws
