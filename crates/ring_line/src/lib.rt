@@ -15,7 +15,7 @@ ghost use lib.ListN.{length};
 ghost use Rattle.ring.specs.Ring.{ring-wrong, read-ring};
 ghost use Rattle.ring.specs.View.{newest};
 ghost use Rattle.ring_line.specs.Text.{digit, decimal, refused-text, half-text, place-text, newest-text, ring-text};
-ghost use Rattle.ring_line.specs.Line.{line-limit, line-of, Added, Short};
+ghost use Rattle.ring_line.specs.Line.{line-limit, Added, Short};
 
 // The first `length` bytes are the line; the others are zeros.
 pub struct Line {
@@ -123,7 +123,7 @@ fn found(ring: &[u8], pages: usize, slots: usize, n: Newest) -> Line
 
 // The state of a ring of `pages` pages of `slots` slots in words, with a line feed.
 pub fn ring_line(ring: &[u8], pages: usize, slots: usize) -> Line
-    ensures { λ r. ⌜ r ≡ line-of (ring-text pages slots (now (ring .entry))) ⌝ }
+    ensures { λ r. ⌜ Short (ring-text pages slots (now (ring .entry))) r line-limit ⌝ }
 {
     if ring_wrong(ring, pages, slots) {
         return refused(stop_number(Stop::RingSize)).add(b"\n");

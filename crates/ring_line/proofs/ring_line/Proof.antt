@@ -6,6 +6,7 @@ use native.Mathlib.Omega.{arith}
 use borrow.Author.Needs.{needs}
 use Rattle.ring.specs.Ring as ring
 use Rattle.ring_line.specs.Text.{ascii, refused-text, newest-text}
+use Rattle.ring_line.specs.Line.{line-limit}
 use Rattle.ring_line.proofs.LineLaws.{behind, no-longer, text-wrong, text-right}
 use Rattle.ring_line.proofs.ring_line.Statement.{statement}
 use Rattle.ring_line.proofs.ring_line.Tie as tie
@@ -15,9 +16,9 @@ returns c =
     let number = c .before .before .before in
     let test = number .before .before in
     let args = test .before .before .args in
-    no-longer 12 (ap (λ (n : ℕ). refused-text n ++ ascii "\n") (number .stop-number .ensures)
+    no-longer line-limit (ap (λ (n : ℕ). refused-text n ++ ascii "\n") (number .stop-number .ensures)
     ∙ text-wrong (args .pages) (args .slots) (args .ring .now) (sym (test .ring-wrong .ensures) ∙ number .before .if1 .taken)) (omega arith)
-    (behind 12 (c .before .before .refused .ensures) (c .add .ensures) (omega arith)) .holds
+    (behind 12 (c .before .before .refused .ensures) (c .add .ensures) (omega arith))
 
 read-ring-requires : tie.Need-read-ring-requires
 read-ring-requires c κs = sym (c .before .ring-wrong .ensures) ∙ c .if1 .left
@@ -30,9 +31,9 @@ returns-2 c =
     let read = c .before .before .before in
     let test = read .before .before in
     let args = test .before .before .args in
-    no-longer 38 (ap (λ (n : ring.Newest). newest-text (args .ring .now) (args .slots) n ++ ascii "\n") (read .read-ring .ensures .0)
+    no-longer line-limit (ap (λ (n : ring.Newest). newest-text (args .ring .now) (args .slots) n ++ ascii "\n") (read .read-ring .ensures .0)
     ∙ text-right (args .pages) (args .slots) (args .ring .now) (sym (test .ring-wrong .ensures) ∙ read .before .if1 .left)) (omega arith)
-    (behind 38 (c .before .before .found .ensures) (c .add2 .ensures) (omega arith)) .holds
+    (behind 38 (c .before .before .found .ensures) (c .add2 .ensures) (omega arith))
 
 pub ring-line-spec : {M : Type 1} → statement M
 ring-line-spec =
