@@ -1,0 +1,3 @@
+-- Laws of the definitions in specs/, for this crate and those above it.
+pub mod Counter
+pub mod Laws
