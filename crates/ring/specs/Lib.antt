@@ -1,0 +1,2 @@
+-- The nonce ring in flash.
+pub mod Ring

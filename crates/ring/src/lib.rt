@@ -1,0 +1,1 @@
+// The nonce ring in flash: reading it, and its stores.
