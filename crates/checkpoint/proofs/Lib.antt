@@ -3,3 +3,4 @@ pub mod FramLaws
 pub mod SealedLaws
 pub mod Offsets
 pub mod HalfLaws
+pub mod StoredLaws

@@ -94,4 +94,4 @@ module _ (key : List ℕ) (c : Checkpoint) (rest : List ℕ) (g : InRange c) whe
   previous-at =
       let w : List ℕ = words (head-words (length (c .open-part) / 4) (length (c .secret) / 4) (c .restarts)) in
       let l : length w ≡ words-length = simp (length-append, length-word) in
-      rw (by-parts, append-assoc, drop-at w _ words-length l) (take-at (c .previous) _ tag-length (g .previous-long))
+      rw (by-parts, append-assoc w (c .previous), drop-at w _ words-length l) (take-at (c .previous) _ tag-length (g .previous-long))
