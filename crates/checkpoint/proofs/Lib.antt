@@ -5,3 +5,4 @@ pub mod Offsets
 pub mod HalfLaws
 pub mod StoredLaws
 pub mod Staged
+pub mod Sealing

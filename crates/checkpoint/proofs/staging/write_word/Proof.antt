@@ -1,11 +1,10 @@
 -- `checkpoint::staging::write_word` meets its contract. Assumes nothing.
-use mathlib.Core.Path.{_≡_, ap, _∙_}
-use mathlib.Core.List.{List}
-use Prim.Native.Nat.{ℕ, _-_, _≤_}
+use mathlib.Core.Path.{ap, _∙_}
+use Prim.Native.Nat.{_-_}
 use native.Mathlib.Omega.{arith}
 use lib.ListN.{length, take, drop}
 use borrow.Author.Needs.{needs}
-use Rattle.octets.specs.Octets.{put, bytes}
+use Rattle.octets.specs.Octets.{put}
 use Rattle.octets.specs.Word.{word}
 use Rattle.octets.proofs.Numbers.{length-word}
 use Rattle.checkpoint.proofs.Staged.{lent}
