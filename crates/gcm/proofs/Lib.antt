@@ -8,3 +8,4 @@ pub mod Hashing
 pub mod Keys
 pub mod Checks
 pub mod Outcomes
+pub mod Theorems
