@@ -280,11 +280,14 @@ stored-word fram staging j w = put fram (j .half * half-length fram + 4 * w) (pa
 unfoldable pub recorded : List ℕ → ℕ → Job → List ℕ
 recorded ring slots j = record-put ring slots (j .page) (j .slot) (job-record j)
 
+-- the page before the target, on a ring with the record, awaits erasing
+unfoldable pub erase-follows : List ℕ → Sizes → Job → Bool
+erase-follows ring z j = eqb (j .slot) 0 && not (blank (page-at ring (z .slots) (page-before (z .pages) (j .page))))
+
 unfoldable pub after-record : List ℕ → List ℕ → Sizes → Job → Moved
 after-record ring fram z j =
     let new = recorded ring (z .slots) j in
-    let older = page-before (z .pages) (j .page) in
-    cond (eqb (j .slot) 0 && not (blank (page-at new (z .slots) older))) (going-on j (EraseAfter older) new fram) (ended j new fram)
+    cond (erase-follows new z j) (going-on j (EraseAfter (page-before (z .pages) (j .page))) new fram) (ended j new fram)
 
 unfoldable pub store : Phase → List ℕ → List ℕ → Advances → Moved
 store (EraseFirst p) ring fram a = going-on (a .job) (Words 0) (page-erased ring (a .sizes .slots) p) fram
