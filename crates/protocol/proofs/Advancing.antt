@@ -1,20 +1,25 @@
 -- An advance of the job handed out last takes the first store off the draft.
-use Prim.Native.Nat.{ℕ}
-use mathlib.Core.Path.{_≡_, refl, sym, ap, subst₂, _∙_}
-use mathlib.Core.Bool.{false}
-use mathlib.Core.Option.{Option, some}
+use Prim.Native.Nat.{ℕ, _%_}
+use mathlib.Core.Path.{_≡_, refl, sym, ap, subst₂, _∙_, subst}
+use mathlib.Core.Bool.{false, not, _||_}
+use mathlib.Core.Option.{Option, some, none}
 use mathlib.Core.List.{List, [], _∷_}
 use native.Mathlib.Omega.{arith}
+use lib.ListN.{length}
+use lib.Dec.{eqb, ltb, leb, T}
+use Rattle.stops.proofs.Laws.{neither}
 use Rattle.ring.specs.Ring.{ring-wrong, page-erased}
-use Rattle.checkpoint.specs.Checkpoint.{Checkpoint}
-use Rattle.protocol.specs.Calls.{Setup, advanced-by}
-use Rattle.protocol.specs.Journal.{Journal, Draft, Store, made, advanced}
-use Rattle.protocol.specs.Operations.{session-of, in-phase, phase-wrong, ended, recorded, store, advance}
-use Rattle.protocol.specs.History.{State, Handed, step}
-use Rattle.protocol.specs.Types.{Origin, Phase, EraseFirst, Words, Record, EraseAfter, Done}
+use Rattle.checkpoint.specs.Checkpoint.{Checkpoint, empty-length}
+use Rattle.checkpoint.specs.Fram.{half-length}
+use Rattle.protocol.specs.Calls.{Setup, advanced-by, Sizes, Advances}
+use Rattle.protocol.specs.Journal.{Journal, Draft, Store, made, advanced, entered}
+use Rattle.protocol.specs.Operations.{session-of, in-phase, phase-wrong, ended, recorded, store, advance, job-wrong, advance-stop, advance-by}
+use Rattle.protocol.specs.History.{State, Handed, step, moved, refused, is-stopped, Keeps, left-by}
+use Rattle.protocol.specs.Types.{Origin, Phase, EraseFirst, Words, Record, EraseAfter, Done, Job}
 use Rattle.protocol.proofs.Invariant.{Durable-at, Erasing-after, Doing, Holds, Moving}
 use Rattle.protocol.proofs.Advances.{call, after, advance-stores, after-ended, doing-of, erased-durable, page-right, erasing-first, writing}
 use Rattle.protocol.proofs.Records.{session-is, more-known, more-match, recording}
+use Rattle.protocol.proofs.Facts.{no-fact, passed}
 
 module _ (u : Setup) (s : State) (h : Handed) (inv : Holds u s) where
   pub erasing-after : (p : ℕ) → h .job .phase ≡ EraseAfter p → (x : Erasing-after u s h p)
@@ -93,3 +98,44 @@ module _ (u : Setup) (s : State) (h : Handed) (inv : Holds u s) (c : Checkpoint)
   pub advancing : s .handed ≡ some h
       → Moving u (step u s (advanced-by (call u h))) (advance (s .ring) (s .fram) (call u h) .progress) c origin rest
   advancing e = go (h .job .phase) refl (inv .doing h e)
+
+-- ---- every advance of the job handed out last
+
+phase-passes : (j : Job) (z : Sizes) (ring fram : List ℕ) → job-wrong j z ring fram ≡ false → phase-wrong (j .phase) j z ring ≡ false
+unfolding job-wrong
+phase-passes j z ring fram e =
+    neither (not (eqb (j .length % 4) 0) || ltb (j .length) empty-length || ltb (half-length fram) (j .length) ||
+    leb (z .pages) (j .page) || leb (z .slots) (j .slot) || ltb 1 (j .half)) (phase-wrong (j .phase) j z ring) e .1
+
+job-passes : (ring fram : List ℕ) (a : Advances) → advance-stop ring fram a ≡ none → job-wrong (a .job) (a .sizes) ring fram ≡ false
+unfolding advance-stop
+job-passes ring fram a e = passed _ _ _ (passed _ _ _ (passed _ _ _ (passed _ _ _ e .1) .1) .1) .0
+
+done-stops : (u : Setup) (s : State) (h : Handed) → h .job .phase ≡ Done → (o : Option ℕ) → advance-stop (s .ring) (s .fram) (call u h) ≡ o
+    → step u s (advanced-by (call u h)) ≡ s
+unfolding step left-by entered refused is-stopped advance advance-by moved phase-wrong
+done-stops u s h e (some x) f = rw f
+done-stops u s h e none f = no-fact (subst (λ (q : Phase). phase-wrong q (h .job) (u .sizes) (s .ring) ≡ false) e
+    (phase-passes (h .job) (u .sizes) (s .ring) (s .fram) (job-passes (s .ring) (s .fram) (call u h) f)))
+
+pub done-refused : (u : Setup) (s : State) (h : Handed) → h .job .phase ≡ Done → (o : Option ℕ) → advance-stop (s .ring) (s .fram) (call u h) ≡ o
+    → T (refused s (advanced-by (call u h)))
+unfolding refused is-stopped advance advance-by phase-wrong
+done-refused u s h e (some x) f = rw f tt
+done-refused u s h e none f = no-fact (subst (λ (q : Phase). phase-wrong q (h .job) (u .sizes) (s .ring) ≡ false) e
+    (phase-passes (h .job) (u .sizes) (s .ring) (s .fram) (job-passes (s .ring) (s .fram) (call u h) f)))
+
+module _ (u : Setup) (s : State) (inv : Holds u s) where
+  hold-call : (h : Handed) (p : Phase) → h .job .phase ≡ p → Doing u s h p → Holds u (step u s (advanced-by (call u h)))
+  hold-call h (EraseFirst p) e d = erasing-first u s h inv p e d .holds
+  hold-call h (Words w) e d = writing u s h inv w e d .holds
+  hold-call h Record e d = recording inv d e .holds
+  hold-call h (EraseAfter p) e d = erasing-after u s h inv p e d .holds
+  hold-call h Done e d = rw (done-stops u s h e (advance-stop (s .ring) (s .fram) (call u h)) refl) inv
+
+  pub hold-advanced : (a : Advances) → Keeps u s (advanced-by a) → Holds u (step u s (advanced-by a))
+  unfolding Keeps
+  hold-advanced a (p, e) =
+      let h : Handed = record { job = a .job; staging = a .staging } in
+      let q : call u h ≡ a = λ i. record { sizes = sym p i; job = a .job; staging = a .staging } in
+      subst (λ (b : Advances). Holds u (step u s (advanced-by b))) q (hold-call h (h .job .phase) refl (inv .doing h e))

@@ -1,18 +1,21 @@
--- The proof of the theorem Recovery.
+-- The proof of the theorem Recovery, from what holds after every list to the theorem.
 pub mod Facts
 pub mod Invariant
-pub mod Advances
-pub mod Records
-pub mod Advancing
-pub mod Starts
 pub mod Reading
 pub mod Refused
 pub mod Exact
-pub mod Blind
-pub mod Begun
+pub mod Unfit
+pub mod Advances
+pub mod Records
+pub mod Advancing
+pub mod Told
+pub mod Starts
+pub mod FirstSaves
+pub mod Saves
 pub mod PowerUps
 pub mod PowerLosses
-pub mod Told
-pub mod Unfit
+pub mod Lists
+pub mod LastRun
 pub mod Looking
 pub mod Recovery
+pub mod Blind

@@ -1,78 +1,31 @@
--- The invariant after an advance, a power loss between two calls and one in a store.
-use Prim.Native.Nat.{ℕ, _+_, _*_, _%_, _≤_, _<_}
+-- The invariant after a power loss between two calls, or in the store of the job handed out last.
+use Prim.Native.Nat.{ℕ, _+_, _*_, _≤_, _<_}
 use mathlib.Core.Path.{_≡_, refl, sym, ap, subst, subst₂, _∙_}
-use mathlib.Core.Bool.{Bool, true, false, not, cond, _||_}
+use mathlib.Core.Bool.{Bool, true, false, not, cond}
 use mathlib.Core.Logic.{_⊎_, inl, inr}
 use mathlib.Core.Option.{Option, none, some}
 use mathlib.Core.List.{List, _∷_, _++_, List·Memᴰ}
 use native.Mathlib.Omega.{arith}
 use native.Mathlib.Nat.{mod-lt}
 use lib.ListN.{length, take, drop, replicate, take-append-drop}
-use lib.Dec.{eqb, ltb, leb, T}
 use lib.Seq.{drop-drop}
 use Rattle.octets.specs.Limits.{slot-length, nonce-length}
 use Rattle.octets.specs.Octets.{part, put, blank, erased}
 use Rattle.octets.proofs.Laws.{length-put, length-part, is-erased, blank-erased}
-use Rattle.stops.proofs.Laws.{neither}
 use Rattle.ring.specs.Ring.{slot-at, ring-wrong, record-of, page-put, record-put}
 use Rattle.ring.proofs.SizeLaws.{Sized, sized, slot-ends}
 use Rattle.ring.proofs.RecordLaws.{length-record, is-record-of, record-used}
-use Rattle.checkpoint.specs.Checkpoint.{Checkpoint, empty-length, own-tag}
+use Rattle.checkpoint.specs.Checkpoint.{Checkpoint, own-tag}
 use Rattle.checkpoint.specs.Fram.{fram-wrong, half-length}
 use Rattle.checkpoint.proofs.FramLaws.{fram-kept, half-within}
-use Rattle.protocol.specs.Calls.{Sizes, Advances, Setup, advanced-by, PowerLoss, lost-in-store}
+use Rattle.protocol.specs.Calls.{Setup, PowerLoss, lost-in-store}
 use Rattle.protocol.specs.Journal.{entered, lost-into, Journal, Draft, Store, erase, word, record-slot, erase-if, to-come, made, dropped, whole}
-use Rattle.protocol.specs.Operations.{job-record, phase-wrong, job-wrong, advance-stop, recorded, advance-by, advance}
-use Rattle.protocol.specs.History.{State, Handed, moved, broken-ring, broken-fram, broken, step, refused, is-stopped, Left, Keeps, left-by}
-use Rattle.protocol.specs.Types.{Origin, Session, Job, Phase, EraseFirst, Words, Record, EraseAfter, Done}
-use Rattle.protocol.proofs.Facts.{no-fact, passed}
+use Rattle.protocol.specs.Operations.{job-record, recorded}
+use Rattle.protocol.specs.History.{State, Handed, broken-ring, broken-fram, broken, step, Left, Keeps, left-by}
+use Rattle.protocol.specs.Types.{Origin, Session, Phase, EraseFirst, Words, Record, EraseAfter, Done}
 use Rattle.protocol.proofs.Invariant.{sealed-fits, half-of, owed-page, Durable-at, Recorded, Durable, Working, last-erase, Writing, Recording, Doing, Holds}
-use Rattle.protocol.proofs.Advances.{call, erase-durable, erasing-first, writing, fram-durable}
-use Rattle.protocol.proofs.Records.{recording, recorded-durable, recorded-is, none-match, record-at, full, next-slot-blank, owing}
-use Rattle.protocol.proofs.Advancing.{erasing-after}
-
--- ---- an advance
-
-phase-passes : (j : Job) (z : Sizes) (ring fram : List ℕ) → job-wrong j z ring fram ≡ false → phase-wrong (j .phase) j z ring ≡ false
-unfolding job-wrong
-phase-passes j z ring fram e =
-    neither (not (eqb (j .length % 4) 0) || ltb (j .length) empty-length || ltb (half-length fram) (j .length) ||
-    leb (z .pages) (j .page) || leb (z .slots) (j .slot) || ltb 1 (j .half)) (phase-wrong (j .phase) j z ring) e .1
-
-job-passes : (ring fram : List ℕ) (a : Advances) → advance-stop ring fram a ≡ none → job-wrong (a .job) (a .sizes) ring fram ≡ false
-unfolding advance-stop
-job-passes ring fram a e = passed _ _ _ (passed _ _ _ (passed _ _ _ (passed _ _ _ e .1) .1) .1) .0
-
-done-stops : (u : Setup) (s : State) (h : Handed) → h .job .phase ≡ Done → (o : Option ℕ) → advance-stop (s .ring) (s .fram) (call u h) ≡ o
-    → step u s (advanced-by (call u h)) ≡ s
-unfolding step left-by entered refused is-stopped advance advance-by moved phase-wrong
-done-stops u s h e (some x) f = rw f
-done-stops u s h e none f = no-fact (subst (λ (q : Phase). phase-wrong q (h .job) (u .sizes) (s .ring) ≡ false) e
-    (phase-passes (h .job) (u .sizes) (s .ring) (s .fram) (job-passes (s .ring) (s .fram) (call u h) f)))
-
-pub done-refused : (u : Setup) (s : State) (h : Handed) → h .job .phase ≡ Done → (o : Option ℕ) → advance-stop (s .ring) (s .fram) (call u h) ≡ o
-    → T (refused s (advanced-by (call u h)))
-unfolding refused is-stopped advance advance-by phase-wrong
-done-refused u s h e (some x) f = rw f tt
-done-refused u s h e none f = no-fact (subst (λ (q : Phase). phase-wrong q (h .job) (u .sizes) (s .ring) ≡ false) e
-    (phase-passes (h .job) (u .sizes) (s .ring) (s .fram) (job-passes (s .ring) (s .fram) (call u h) f)))
-
-module _ (u : Setup) (s : State) (inv : Holds u s) where
-  hold-call : (h : Handed) (p : Phase) → h .job .phase ≡ p → Doing u s h p → Holds u (step u s (advanced-by (call u h)))
-  hold-call h (EraseFirst p) e d = erasing-first u s h inv p e d .holds
-  hold-call h (Words w) e d = writing u s h inv w e d .holds
-  hold-call h Record e d = recording inv d e .holds
-  hold-call h (EraseAfter p) e d = erasing-after u s h inv p e d .holds
-  hold-call h Done e d = rw (done-stops u s h e (advance-stop (s .ring) (s .fram) (call u h)) refl) inv
-
-  pub hold-advanced : (a : Advances) → Keeps u s (advanced-by a) → Holds u (step u s (advanced-by a))
-  unfolding Keeps
-  hold-advanced a (p, e) =
-      let h : Handed = record { job = a .job; staging = a .staging } in
-      let q : call u h ≡ a = λ i. record { sizes = sym p i; job = a .job; staging = a .staging } in
-      subst (λ (b : Advances). Holds u (step u s (advanced-by b))) q (hold-call h (h .job .phase) refl (inv .doing h e))
-
--- ---- power losses
+use Rattle.protocol.proofs.Advances.{erase-durable, fram-durable}
+use Rattle.protocol.proofs.Records.{recorded-durable, recorded-is, none-match, record-at, full, next-slot-blank, owing}
 
 module _ (u : Setup) (s : State) (inv : Holds u s) where
   loss-holds : (ring fram : List ℕ) (j : Journal) → ring-wrong (u .sizes .pages) (u .sizes .slots) ring ≡ false → fram-wrong fram ≡ false

@@ -27,7 +27,8 @@ use Rattle.protocol.proofs.Invariant.{Good, half-of, page-in, slot-in, 
 use Rattle.protocol.proofs.Facts.{passed}
 use Rattle.protocol.proofs.Starts.{Begins, started, start-holds}
 use Rattle.protocol.proofs.Reading.{reads, target-page-found, target-slot-found, other-half, restarts-found, checkpoint-found}
-use Rattle.protocol.proofs.Begun.{begun-stopped, begun-none, in-use-recorded}
+use Rattle.protocol.proofs.Starts.{begun-stopped, begun-none}
+use Rattle.protocol.proofs.Saves.{in-use-recorded}
 
 abbrev pub power-call : Setup → PowersUp → PowersUp
 power-call u a = record { sizes = u .sizes; key = u .key; nonce = a .nonce; staging = a .staging; state = a .state }

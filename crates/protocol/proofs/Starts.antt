@@ -1,22 +1,25 @@
 -- A start that does not stop: the job handed out matches the draft.
 use Prim.Native.Nat.{ℕ, suc, _+_, _-_, _*_, _/_, _%_, _≤_}
 use mathlib.Core.Path.{_≡_, refl, sym, subst}
-use mathlib.Core.Bool.{Bool, true, false, _&&_}
+use mathlib.Core.Bool.{Bool, true, false, _&&_, cond, _||_}
 use mathlib.Core.Logic.{_⊎_, inl, inr}
-use mathlib.Core.Option.{Option, some}
+use mathlib.Core.Option.{Option, some, none}
 use mathlib.Core.List.{List, _∷_, _++_, List·Memᴰ, List·Memᴰ·head, List·Memᴰ·tail}
 use native.Mathlib.Omega.{arith}
 use lib.ListN.{length, replicate}
 use lib.Dec.{eqb, ltb}
+use borrow.Author.Tests.{eqb-true, ltb-false, not-false}
 use Rattle.octets.specs.Octets.{put}
 use Rattle.octets.proofs.Laws.{length-put, put-within}
-use Rattle.checkpoint.specs.Checkpoint.{Checkpoint, sealed}
+use Rattle.octets.specs.Limits.{part-limit}
+use Rattle.stops.proofs.Laws.{neither}
+use Rattle.checkpoint.specs.Checkpoint.{Checkpoint, sealed, sealed-length, part-wrong}
 use Rattle.checkpoint.specs.Half.{stored}
 use Rattle.checkpoint.specs.Fram.{half-length}
-use Rattle.protocol.specs.Calls.{Setup}
+use Rattle.protocol.specs.Calls.{Setup, SaveArguments}
 use Rattle.protocol.specs.Journal.{Journal, Store, erase, word, record-slot, erase-if, drafted, stores-of}
-use Rattle.protocol.specs.Operations.{job-of}
-use Rattle.protocol.specs.History.{State, Handed}
+use Rattle.protocol.specs.Operations.{job-of, begin, parts-wrong, staging-wrong}
+use Rattle.protocol.specs.History.{State, Handed, begun, is-stop}
 use Rattle.protocol.specs.Types.{Origin, Job, Phase, EraseFirst, Words}
 use Rattle.protocol.proofs.Invariant.{Good, length-good, sealed-fits, half-of, page-in, slot-in, owed-page, Durable, Before, last-erase, Doing, Holds}
 use Rattle.protocol.proofs.Advances.{doing-of}
@@ -136,3 +139,53 @@ module _ (u : Setup) (s : State) (inv : Holds u s) (c : Checkpoint) (origin : Or
     sessions-match = inv .sessions-match;
     doing = doing-of u t h refl (start-doing b);
   }
+
+-- ---- a start's answer, by its stop
+
+module _ (s : State) (o : Option ℕ) (key : List ℕ) (c : Checkpoint) (job : Job) (staging state secret nonce : List ℕ) (j : Journal) where
+  pub begun-stopped : (x : ℕ) → o ≡ some x → begun s (begin o key c job staging state secret .answer) (begin o key c job staging state secret) nonce (cond (is-stop (begin o key c job staging state secret .answer)) (s .journal) j) ≡ s
+  unfolding begin begun is-stop
+  begun-stopped x e = rw e
+
+  pub begun-none : o ≡ none → begun s (begin o key c job staging state secret .answer) (begin o key c job staging state secret) nonce (cond (is-stop (begin o key c job staging state secret .answer)) (s .journal) j) ≡ record {
+    ring = s .ring;
+    fram = s .fram;
+    handed = some (record { job = job; staging = put staging 0 (sealed key c) });
+    sessions = s .sessions;
+    nonces = nonce ∷ s .nonces;
+    journal = j;
+  }
+  unfolding begin begun is-stop
+  begun-none e = rw e
+
+-- ---- parts that pass
+
+pub part-passes : (p : List ℕ) → part-wrong p ≡ false → (length p % 4 ≡ 0) × (length p ≤ part-limit)
+unfolding part-wrong
+part-passes p e =
+    let x = neither _ _ e in
+    (eqb-true (length p % 4) 0 (not-false _ (x .0)), ltb-false part-limit (length p) (x .1))
+
+pub record Parts (open-part secret : List ℕ) (half staging : ℕ) : Type 0 where
+  pub open-passes : (length open-part % 4 ≡ 0) × (length open-part ≤ part-limit)
+  pub secret-passes : (length secret % 4 ≡ 0) × (length secret ≤ part-limit)
+  pub fits : sealed-length (length open-part) (length secret) ≤ half
+  pub staging-long : half ≤ staging
+
+pub parts-pass : (open-part secret fram staging : List ℕ) → parts-wrong open-part secret fram || staging-wrong staging fram ≡ false
+    → Parts open-part secret (half-length fram) (length staging)
+unfolding parts-wrong staging-wrong
+parts-pass open-part secret fram staging e =
+    let a = neither _ _ e in
+    let b = neither _ _ (a .0) in
+    let c = neither _ _ (b .0) in
+    record {
+      open-passes = part-passes open-part (c .0);
+      secret-passes = part-passes secret (c .1);
+      fits = ltb-false (half-length fram) (sealed-length (length open-part) (length secret)) (b .1);
+      staging-long = ltb-false (length staging) (half-length fram) (a .1);
+    }
+
+-- the same arguments with the unit's sizes and key
+abbrev pub save-arguments : Setup → SaveArguments → SaveArguments
+save-arguments u a = record { sizes = u .sizes; key = u .key; nonce = a .nonce; open-part = a .open-part; secret = a .secret; staging = a .staging }

@@ -15,7 +15,7 @@ use Rattle.protocol.proofs.Invariant.{Doing, Holds, Moving, answer-of}
 use Rattle.protocol.proofs.Advances.{call, erasing-first, writing}
 use Rattle.protocol.proofs.Records.{recording}
 use Rattle.protocol.proofs.Advancing.{erasing-after}
-use Rattle.protocol.proofs.PowerLosses.{done-refused}
+use Rattle.protocol.proofs.Advancing.{done-refused}
 
 same-end : (o : Origin) → finished o ≡ ending o
 unfolding finished ending
