@@ -26,7 +26,7 @@ use Rattle.protocol.proofs.Facts.{passed}
 use Rattle.protocol.proofs.Starts.{started, start-holds, begun-stopped, begun-none, Parts, parts-pass, save-arguments}
 use Rattle.protocol.proofs.Reading.{reads}
 
-abbrev first-call : Setup → FirstSave → FirstSave
+abbrev pub first-call : Setup → FirstSave → FirstSave
 first-call u a = record { arguments = save-arguments u (a .arguments); starting-tag = a .starting-tag }
 
 record First-passes (u : Setup) (ring fram : List ℕ) (a : FirstSave) : Type 0 where
@@ -65,7 +65,7 @@ blank-untouched u s inv b = go (inv .durable)
         ∙ reads (inv .fram-right) r))
 
 module _ (u : Setup) (s : State) (inv : Holds u s) (a : FirstSave) (new : List·Memᴰ (a .arguments .nonce) (s .nonces) → ⊥) where
-  first-begun : first-save-stop (s .ring) (s .fram) (first-call u a) ≡ none
+  pub first-begun : first-save-stop (s .ring) (s .fram) (first-call u a) ≡ none
       → Holds u (started u s (first-checkpoint (first-call u a)) Save 0 (job-of (u .key) (first-checkpoint (first-call u a)) (Words 0) Save 0 0 0) (a .arguments .staging))
   unfolding first-checkpoint
   first-begun e =
@@ -100,10 +100,17 @@ module _ (u : Setup) (s : State) (inv : Holds u s) (a : FirstSave) (new : List·
       slot-is : 0 ≡ slot-in u (s .journal .count + 1)
       slot-is = rw (x .no-record, zero-mod (u .sizes .slots))
 
-  first-go : (o : Option ℕ) → first-save-stop (s .ring) (s .fram) (first-call u a) ≡ o → Holds u (step u s (first-saved (first-call u a)))
+  -- the state after a first save that does not stop
+  pub first-step : first-save-stop (s .ring) (s .fram) (first-call u a) ≡ none
+      → step u s (first-saved (first-call u a))
+      ≡ started u s (first-checkpoint (first-call u a)) Save 0 (job-of (u .key) (first-checkpoint (first-call u a)) (Words 0) Save 0 0 0) (a .arguments .staging)
   unfolding step left-by entered refused first-save first-checkpoint first-draft
+  first-step e = begun-none s (first-save-stop (s .ring) (s .fram) (first-call u a)) _ _ _ _ _ _ _ _ e
+
+  first-go : (o : Option ℕ) → first-save-stop (s .ring) (s .fram) (first-call u a) ≡ o → Holds u (step u s (first-saved (first-call u a)))
+  unfolding step left-by entered refused first-save
   first-go (some x) e = rw (begun-stopped s (first-save-stop (s .ring) (s .fram) (first-call u a)) _ _ _ _ _ _ _ _ x e) inv
-  first-go none e = rw (begun-none s (first-save-stop (s .ring) (s .fram) (first-call u a)) _ _ _ _ _ _ _ _ e) (first-begun e)
+  first-go none e = subst (λ (t : State). Holds u t) (sym (first-step e)) (first-begun e)
 
 pub hold-first : (u : Setup) (s : State) (a : FirstSave) → Holds u s → Keeps u s (first-saved a) → Holds u (step u s (first-saved a))
 unfolding Keeps

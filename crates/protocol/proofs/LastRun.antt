@@ -15,7 +15,7 @@ use Rattle.protocol.specs.Calls.{Advances, Setup, Event, first-saved, sa
 use Rattle.protocol.specs.Journal.{Journal, Store, word, record-slot, erase-if, stores-of}
 use Rattle.protocol.specs.Operations.{finished, ended, advance, newest-half}
 use Rattle.protocol.specs.History.{State, Handed, step, run, refused, is-stopped, Keeps}
-use Rattle.protocol.specs.Types.{PowerUp, Progress, GoingOn, Restored}
+use Rattle.protocol.specs.Types.{Origin, Save, PowerUp, Progress, GoingOn, Restored}
 use Rattle.protocol.specs.Recovery.{is-advance, Uninterrupted, answered, answers, with-handed, advances-of, Stands}
 use Rattle.protocol.proofs.Invariant.{page-in, slot-in, Durable-at, Recorded, Holds, answer-of, Ended, Moving}
 use Rattle.protocol.proofs.Advances.{call}
@@ -150,10 +150,11 @@ pub advances-on : (u : Setup) (n : ℕ) (t : State) (h : Handed) → t .handed �
 unfolding advances-of with-handed
 advances-on u n t h e = ap (λ (o : Option Handed). with-handed o (λ h. advanced-by (call u h) ∷ advances-of u n (step u t (advanced-by (call u h))))) e
 
-going : (rest : List Store) → is-stopped (answer-of PowerUp rest) ≡ false
+pub going : (origin : Origin) (rest : List Store) → is-stopped (answer-of origin rest) ≡ false
 unfolding is-stopped finished
-going [] = refl
-going (x ∷ rest) = refl
+going Save [] = refl
+going PowerUp [] = refl
+going origin (x ∷ rest) = refl
 
 runs-more : (u : Setup) (t : State) (h : Handed) (n : ℕ) → t .handed ≡ some h → is-stopped (advance (t .ring) (t .fram) (call u h) .progress) ≡ false
     → Uninterrupted u (step u t (advanced-by (call u h))) (advances-of u n (step u t (advanced-by (call u h))))
@@ -172,7 +173,7 @@ runs-on u new [] t h inv e d = (tt, refl)
 runs-on u new (x ∷ rest) t h inv e d =
     let m = advancing u t h inv new PowerUp x rest d e in
     let more = runs-on u new rest (step u t (advanced-by (call u h))) (m .handed) (m .holds) (m .handed-is) (m .draft-is) in
-    runs-more u t h (length rest) e (ap is-stopped (m .answered) ∙ going rest) (more .0) (more .1)
+    runs-more u t h (length rest) e (ap is-stopped (m .answered) ∙ going PowerUp rest) (more .0) (more .1)
 
 some-store : (xs : List Store) (y : Store) (ys : List Store) → (x : Store) × (rest : List Store) × (xs ++ y ∷ ys ≡ x ∷ rest)
 some-store [] y ys = (y, ys, refl)

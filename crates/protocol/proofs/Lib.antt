@@ -19,3 +19,5 @@ pub mod LastRun
 pub mod Looking
 pub mod Recovery
 pub mod Blind
+pub mod Runs
+pub mod Histories

@@ -48,7 +48,7 @@ module _ (u : Setup) (s : State) (inv : Holds u s) (a : PowersUp) (key-long : le
   unfolding power-up-stop first-of is-blank
   stop-blank b = rw (inv .ring-right, inv .fram-right, sizes-pass, buffers-pass, read-blank (u .sizes .pages) (u .sizes .slots) (s .ring) (inv .ring-right) b)
 
-  stop-recorded : (c : Checkpoint) → Entry u s c → stop ≡ cond (eqb (c .restarts) restart-limit) (some 13) none
+  pub stop-recorded : (c : Checkpoint) → Entry u s c → stop ≡ cond (eqb (c .restarts) restart-limit) (some 13) none
   unfolding power-up-stop first-of
   stop-recorded c r =
       rw (
@@ -66,7 +66,7 @@ module _ (u : Setup) (s : State) (inv : Holds u s) (a : PowersUp) (key-long : le
       )
 
   -- with nothing recorded
-  answer-stopped : (x : ℕ) → stop ≡ some x → power-up (s .ring) (s .fram) (power-call u a) .answer ≡ Stopped x
+  pub answer-stopped : (x : ℕ) → stop ≡ some x → power-up (s .ring) (s .fram) (power-call u a) .answer ≡ Stopped x
   unfolding power-up begin
   answer-stopped x e = rw e
 
@@ -90,7 +90,7 @@ module _ (u : Setup) (s : State) (inv : Holds u s) (a : PowersUp) (key-long : le
       }
 
   module _ (c : Checkpoint) (r : Entry u s c) (few : c .restarts ≡ restart-limit → ⊥) where
-    stop-none : stop ≡ none
+    pub stop-none : stop ≡ none
     stop-none = stop-recorded c r ∙ ap (λ (b : Bool). cond b (some 13) none) (ne-eqb (c .restarts) restart-limit few)
 
     power-up-begins : power-up (s .ring) (s .fram) (power-call u a) ≡ record {

@@ -23,13 +23,13 @@ use Rattle.protocol.specs.Calls.{Saves, Setup, saved}
 use Rattle.protocol.specs.Journal.{entered, saved-entry, Journal, drafted, save-draft}
 use Rattle.protocol.specs.Operations.{key-wrong, nonce-wrong, job-of, save-stop, save-checkpoint, save, stale}
 use Rattle.protocol.specs.History.{State, step, Keeps, left-by, refused}
-use Rattle.protocol.specs.Types.{Save, Session, Words}
+use Rattle.protocol.specs.Types.{Save, Session, Job, Words}
 use Rattle.protocol.proofs.Invariant.{Good, Durable-at, Recorded, Holds}
 use Rattle.protocol.proofs.Facts.{no-fact, passed}
-use Rattle.protocol.proofs.Starts.{start-holds, begun-stopped, begun-none, Parts, parts-pass, save-arguments}
+use Rattle.protocol.proofs.Starts.{started, start-holds, begun-stopped, begun-none, Parts, parts-pass, save-arguments}
 use Rattle.protocol.proofs.Reading.{reads, nonce-found, target-page-found, target-slot-found, other-half}
 
-abbrev save-call : Setup → Saves → Saves
+abbrev pub save-call : Setup → Saves → Saves
 save-call u a = record { arguments = save-arguments u (a .arguments); session = a .session }
 
 record Save-passes (u : Setup) (ring fram : List ℕ) (a : Saves) : Type 0 where
@@ -84,72 +84,79 @@ module _ (u : Setup) (s : State) (inv : Holds u s) (a : Saves) (new : List·Mem�
   abbrev n : Newest
   n = read-ring (s .ring) (u .sizes .pages) (u .sizes .slots)
 
-  save-begun : save-stop (s .ring) (s .fram) (save-call u a) ≡ none
-      → Holds u (record {
-        ring = s .ring;
-        fram = s .fram;
-        handed = some (record {
-          job = job-of (u .key) (save-checkpoint (save-call u a) (a .session .tag)) (Words 0) Save (1 - half-named (newest-record (s .ring) (u .sizes .slots) n))
-              (target-page (u .sizes .pages) (u .sizes .slots) n) (target-slot (u .sizes .slots) n);
-          staging = put (a .arguments .staging) 0 (sealed (u .key) (save-checkpoint (save-call u a) (a .session .tag)));
-        });
-        sessions = s .sessions;
-        nonces = a .arguments .nonce ∷ s .nonces;
-        journal = saved-entry (u .key) (save-call u a) (s .journal .entry) (s .journal) (u .sizes .slots);
-      })
-  unfolding save-checkpoint
-  save-begun e =
-      rw (saved-draft (u .key) (save-call u a) (s .journal .entry) (s .journal) (u .sizes .slots) c (r .entry-is) tag-is)
-      (start-holds u s inv (save-checkpoint (save-call u a) (a .session .tag)) Save (Words 0) (1 - half-named (newest-record (s .ring) (u .sizes .slots) n))
-      (target-page (u .sizes .pages) (u .sizes .slots) n) (target-slot (u .sizes .slots) n) (a .arguments .staging) good new (p .parts .staging-long)
-      (rw reads-as (other-half (inv .fram-right) r))
-      (rw reads-as (target-page-found (inv .fram-right) r))
-      (rw reads-as (target-slot-found (inv .fram-right) r))
-      0 refl (inl (none-owed, refl)))
-    where
-      p : Save-passes u (s .ring) (s .fram) a
-      p = save-passes u (s .ring) (s .fram) a e
+  -- the job of a save that does not stop
+  abbrev pub saving-job : Job
+  saving-job = job-of (u .key) (save-checkpoint (save-call u a) (a .session .tag)) (Words 0) Save (1 - half-named (newest-record (s .ring) (u .sizes .slots) n))
+      (target-page (u .sizes .pages) (u .sizes .slots) n) (target-slot (u .sizes .slots) n)
 
-      x : (c : Checkpoint) × Recorded u (s .ring) (s .fram) (s .nonces) (s .journal .entry) (s .journal .count) (s .journal .owed) (s .journal .power-ups) c
-      x = in-use-recorded u s inv (p .in-use)
+  module _ (e : save-stop (s .ring) (s .fram) (save-call u a) ≡ none) where
+    p : Save-passes u (s .ring) (s .fram) a
+    p = save-passes u (s .ring) (s .fram) a e
 
-      c : Checkpoint
-      c = x .0
+    x : (c : Checkpoint) × Recorded u (s .ring) (s .fram) (s .nonces) (s .journal .entry) (s .journal .count) (s .journal .owed) (s .journal .power-ups) c
+    x = in-use-recorded u s inv (p .in-use)
 
-      r : Recorded u (s .ring) (s .fram) (s .nonces) (s .journal .entry) (s .journal .count) (s .journal .owed) (s .journal .power-ups) c
-      r = x .1
+    r : Recorded u (s .ring) (s .fram) (s .nonces) (s .journal .entry) (s .journal .count) (s .journal .owed) (s .journal .power-ups) (x .0)
+    r = x .1
 
-      reads-as : n ≡ found (u .sizes .pages) (u .sizes .slots) (s .journal .count) (s .journal .owed)
-      reads-as = reads (inv .fram-right) r
+    reads-as : n ≡ found (u .sizes .pages) (u .sizes .slots) (s .journal .count) (s .journal .owed)
+    reads-as = reads (inv .fram-right) r
 
-      none-owed : s .journal .owed ≡ false
-      none-owed = sym (pending-is (s .journal .owed) (u .sizes .pages) (u .sizes .slots) (s .journal .count)) ∙ ap (λ (m : Newest). is-pending m) (sym reads-as) ∙ p .none-pending
+    none-owed : s .journal .owed ≡ false
+    none-owed = sym (pending-is (s .journal .owed) (u .sizes .pages) (u .sizes .slots) (s .journal .count)) ∙ ap (λ (m : Newest). is-pending m) (sym reads-as) ∙ p .none-pending
 
-      latest-is : take nonce-length (a .session .latest) ≡ c .nonce
-      latest-is = ap (λ (l : List ℕ). take nonce-length l) (session-latest (s .ring) (u .sizes .slots) n (a .session) (p .fresh-session) ∙ ap (λ (m : Newest). newest-record (s .ring) (u .sizes .slots) m) reads-as)
-          ∙ nonce-found (inv .fram-right) r
+    latest-is : take nonce-length (a .session .latest) ≡ x .0 .nonce
+    latest-is =
+        ap (λ (l : List ℕ). take nonce-length l)
+        (session-latest (s .ring) (u .sizes .slots) n (a .session) (p .fresh-session) ∙ ap (λ (m : Newest). newest-record (s .ring) (u .sizes .slots) m) reads-as)
+        ∙ nonce-found (inv .fram-right) r
 
-      tag-is : a .session .tag ≡ own-tag (u .key) c
-      tag-is = inv .sessions-match (a .session) mine c (r .entry-is) latest-is
+    tag-is : a .session .tag ≡ own-tag (u .key) (x .0)
+    tag-is = inv .sessions-match (a .session) mine (x .0) (r .entry-is) latest-is
 
-      good : Good (save-checkpoint (save-call u a) (a .session .tag)) (half-length (s .fram))
-      good = record {
-        range = record {
-          open-whole = p .parts .open-passes .0;
-          open-small = p .parts .open-passes .1;
-          secret-whole = p .parts .secret-passes .0;
-          secret-small = p .parts .secret-passes .1;
-          restarts-small = omega arith;
-          previous-long = rw tag-is (length-own-tag (u .key) c);
-        };
-        nonce-long = p .nonce-long;
-        fits = p .parts .fits;
-      }
+    good : Good (save-checkpoint (save-call u a) (a .session .tag)) (half-length (s .fram))
+    unfolding save-checkpoint
+    good = record {
+      range = record {
+        open-whole = p .parts .open-passes .0;
+        open-small = p .parts .open-passes .1;
+        secret-whole = p .parts .secret-passes .0;
+        secret-small = p .parts .secret-passes .1;
+        restarts-small = omega arith;
+        previous-long = rw tag-is (length-own-tag (u .key) (x .0));
+      };
+      nonce-long = p .nonce-long;
+      fits = p .parts .fits;
+    }
+
+    pub save-begun : Holds u (started u s (save-checkpoint (save-call u a) (a .session .tag)) Save 0 saving-job (a .arguments .staging))
+    unfolding save-checkpoint
+    save-begun =
+        start-holds u s inv (save-checkpoint (save-call u a) (a .session .tag)) Save (Words 0) (1 - half-named (newest-record (s .ring) (u .sizes .slots) n))
+        (target-page (u .sizes .pages) (u .sizes .slots) n) (target-slot (u .sizes .slots) n) (a .arguments .staging) good new (p .parts .staging-long)
+        (rw reads-as (other-half (inv .fram-right) r))
+        (rw reads-as (target-page-found (inv .fram-right) r))
+        (rw reads-as (target-slot-found (inv .fram-right) r))
+        0 refl (inl (none-owed, refl))
+
+    -- the state after it
+    pub save-step : step u s (saved (save-call u a)) ≡ started u s (save-checkpoint (save-call u a) (a .session .tag)) Save 0 saving-job (a .arguments .staging)
+    unfolding step left-by entered refused save save-checkpoint
+    save-step =
+        begun-none s (save-stop (s .ring) (s .fram) (save-call u a)) _ _ _ _ _ _ _ _ e
+        ∙ ap (λ (j : Journal). record {
+          ring = s .ring;
+          fram = s .fram;
+          handed = some (record { job = saving-job; staging = put (a .arguments .staging) 0 (sealed (u .key) (save-checkpoint (save-call u a) (a .session .tag))) });
+          sessions = s .sessions;
+          nonces = a .arguments .nonce ∷ s .nonces;
+          journal = j;
+        }) (saved-draft (u .key) (save-call u a) (s .journal .entry) (s .journal) (u .sizes .slots) (x .0) (r .entry-is) tag-is)
 
   save-go : (o : Option ℕ) → save-stop (s .ring) (s .fram) (save-call u a) ≡ o → Holds u (step u s (saved (save-call u a)))
   unfolding step left-by entered refused save
   save-go (some x) e = rw (begun-stopped s (save-stop (s .ring) (s .fram) (save-call u a)) _ _ _ _ _ _ _ _ x e) inv
-  save-go none e = rw (begun-none s (save-stop (s .ring) (s .fram) (save-call u a)) _ _ _ _ _ _ _ _ e) (save-begun e)
+  save-go none e = subst (λ (t : State). Holds u t) (sym (save-step e)) (save-begun e)
 
 pub hold-saved : (u : Setup) (s : State) (a : Saves) → Holds u s → Keeps u s (saved a) → Holds u (step u s (saved a))
 unfolding Keeps
