@@ -12,7 +12,7 @@ use borrow.Author.Tests.{eq-eqb, ne-eqb, le-ltb, eqb-true, eqb-false}
 use Rattle.octets.specs.Limits.{part-limit, restart-limit, key-length, nonce-length}
 use Rattle.octets.specs.Octets.{put, blank}
 use Rattle.stops.specs.Stops.{first-of}
-use Rattle.ring.specs.Ring.{ring-wrong, is-blank}
+use Rattle.ring.specs.Ring.{ring-wrong}
 use Rattle.ring.proofs.RingLaws.{read-blank}
 use Rattle.ring.proofs.FoundLaws.{not-blank, not-unreadable}
 use Rattle.checkpoint.specs.Checkpoint.{Checkpoint, sealed}
@@ -45,7 +45,7 @@ module _ (u : Setup) (s : State) (inv : Holds u s) (a : PowersUp) (key-long : le
   buffers-pass = rw (le-ltb (length (a .staging)) (half-length (s .fram)) (l .staging), le-ltb (length (a .state)) part-limit (l .state))
 
   stop-blank : blank (s .ring) ≡ true → stop ≡ some 6
-  unfolding power-up-stop first-of is-blank
+  unfolding power-up-stop first-of
   stop-blank b = rw (inv .ring-right, inv .fram-right, sizes-pass, buffers-pass, read-blank (u .sizes .pages) (u .sizes .slots) (s .ring) (inv .ring-right) b)
 
   pub stop-recorded : (c : Checkpoint) → Entry u s c → stop ≡ cond (eqb (c .restarts) restart-limit) (some 13) none

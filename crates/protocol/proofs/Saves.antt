@@ -60,7 +60,6 @@ save-passes u ring fram a e =
 -- a ring in use has a checkpoint recorded
 pub in-use-recorded : (u : Setup) (s : State) → Holds u s → is-blank (read-ring (s .ring) (u .sizes .pages) (u .sizes .slots)) ≡ false
     → (c : Checkpoint) × Recorded u (s .ring) (s .fram) (s .nonces) (s .journal .entry) (s .journal .count) (s .journal .owed) (s .journal .power-ups) c
-unfolding is-blank
 in-use-recorded u s inv b = go (inv .durable)
   where
     go : Durable-at u s (s .ring) (s .fram) (s .journal .owed)
