@@ -26,7 +26,7 @@ length-associated c h = simp (length-append, length-head c h)
 
 pub length-own-tag : (key : List ℕ) (c : Checkpoint) → length (own-tag key c) ≡ tag-length
 unfolding own-tag
-length-own-tag key c = length-tag key (c .nonce) (associated c) (encrypted key (c .nonce) (c .secret))
+length-own-tag key c = length-tag key (c .nonce) _ _
 
 pub length-sealed : (key : List ℕ) (c : Checkpoint) → length (c .previous) ≡ tag-length
     → length (sealed key c) ≡ sealed-length (length (c .open-part)) (length (c .secret))
