@@ -1,0 +1,2 @@
+-- Laws of the views and of the operations' conditions.
+pub mod ViewLaws
