@@ -28,14 +28,18 @@ pub length-page : {pages slots : ℕ} {ring : List ℕ} → Sized pages slots ri
 unfolding page-at
 length-page {pages} {slots} {ring} z p h = length-part ring (slot-length * (p * slots)) (slot-length * slots) (sizes.page-ends z p h)
 
+pub length-slot : {pages slots : ℕ} {ring : List ℕ} → Sized pages slots ring → (p s : ℕ) → p < pages → s < slots → length (slot-at ring slots p s) ≡ slot-length
+unfolding slot-at
+length-slot {pages} {slots} {ring} z p s h k = length-part ring (slot-length * (p * slots + s)) slot-length (sizes.slot-ends z p h s k)
+
 -- `ys` is put at index `i`, which is offset `k` of page `p`
-pub record Within (pages slots : ℕ) (ring : List ℕ) (p k i : ℕ) (ys : List ℕ) : Type 0 where
+pub record PutWithin (pages slots : ℕ) (ring : List ℕ) (p k i : ℕ) (ys : List ℕ) : Type 0 where
   pub size : Sized pages slots ring
   pub in-ring : p < pages
   pub place : i ≡ slot-length * (p * slots) + k
   pub in-page : k + length ys ≤ slot-length * slots
 
-module _ {pages slots : ℕ} {ring : List ℕ} {p k i : ℕ} {ys : List ℕ} (w : Within pages slots ring p k i ys) where
+module _ {pages slots : ℕ} {ring : List ℕ} {p k i : ℕ} {ys : List ℕ} (w : PutWithin pages slots ring p k i ys) where
   page-ends : slot-length * (p * slots) + slot-length * slots ≤ length ring
   page-ends = sizes.page-ends (w .size) p (w .in-ring)
 

@@ -17,7 +17,7 @@ use Rattle.ring.proofs.SizeLaws.{Sized, sized}
 use Rattle.ring.proofs.TurnLaws as turns
 use Rattle.ring.proofs.TurnLaws.{Turn, Same, New, turn, page-of-fits, slot-of-fits, NextPage, next-laws, PageBefore, before-laws, Before, before-is}
 use Rattle.ring.proofs.RecordLaws.{Records, page-with, no-record, one-more, nonce-with, last-with, next-with, put-with}
-use Rattle.ring.proofs.PageLaws.{Within, slot-in-page, page-blank, length-page, put-sizes, put-page, put-whole, put-other}
+use Rattle.ring.proofs.PageLaws.{PutWithin, slot-in-page, page-blank, length-page, put-sizes, put-page, put-whole, put-other}
 use Rattle.ring.proofs.ReadLaws.{Holds, not-blank, used-none, used-one, used-two, alone-with, reading-follows, reading-around}
 pub use Rattle.ring.proofs.TurnLaws.{page-of, slot-of}
 pub use Rattle.ring.proofs.RecordLaws.{concat, any, last}
@@ -79,7 +79,7 @@ grown {pages} {slots} {ring} {count} {base} owed r i o wrong c place l is pend o
     let p : ℕ = page-of pages slots count in
     let h : p < pages = page-of-fits pages slots count (o .size .numbers .some-pages) in
     let s : slot-of slots count < slots = slot-of-fits slots count (o .size .numbers .some-slots) in
-    let w : Within pages slots ring p (slot-length * length base) i r =
+    let w : PutWithin pages slots ring p (slot-length * length base) i r =
     record { size = o .size; in-ring = h; place = omega (arith, o .number); in-page = omega (arith, o .number) } in
     record {
       sizes = put-sizes w wrong;
@@ -270,7 +270,7 @@ module _ (pages slots : ℕ) (ring : List ℕ) (count : ℕ) (recs : List (List 
       before : PageBefore pages p
       before = before-laws pages p (size h .numbers .some-pages) (in-ring h)
 
-      w : Within pages slots ring (page-before pages p) 0 i left
+      w : PutWithin pages slots ring (page-before pages p) 0 i left
       w = record { size = size h; in-ring = before .in-ring; place = omega arith; in-page = omega arith }
 
       whole : page-at (put ring i left) slots (page-before pages p) ≡ left

@@ -1,5 +1,5 @@
 -- The nonce ring in flash (document 01, "The nonce ring"): `pages` pages of `slots` slots, lent as one image `ring`.
-use Prim.Native.Nat.{ℕ, zero, suc, _+_, _-_, _*_}
+use Prim.Native.Nat.{ℕ, zero, suc, _+_, _-_, _*_, _<_}
 use mathlib.Core.Bool.{Bool, true, false, not, cond, _&&_, _||_}
 use mathlib.Core.List.{List, [], _∷_, _++_}
 use lib.ListN.{length, take, drop}
@@ -124,6 +124,11 @@ newest-slot Blank = 0
 newest-slot Unreadable = 0
 newest-slot (At p s) = s
 newest-slot (AtPending p q) = 0
+
+-- that place lies in the ring
+pub record Within (pages slots : ℕ) (n : Newest) : Type 0 where
+  pub page-in : newest-page n < pages
+  pub slot-in : newest-slot n < slots
 
 unfoldable pub newest-record : List ℕ → ℕ → Newest → List ℕ
 newest-record ring slots n = slot-at ring slots (newest-page n) (newest-slot n)
