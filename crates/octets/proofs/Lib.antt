@@ -2,3 +2,4 @@
 pub mod Laws
 pub mod Numbers
 pub mod Tables
+pub mod Lent

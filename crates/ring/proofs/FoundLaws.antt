@@ -20,12 +20,10 @@ module _ (pages slots : ℕ) (ring : List ℕ) (count : ℕ) (recs : List (List 
   read-is true h = read-pending pages slots ring count recs h
 
   pub slot-is : (owed : Bool) → Ringed pages slots ring count owed recs → newest-slot (found pages slots count owed) ≡ slot-of slots count
-  unfolding newest-slot
   slot-is false h = refl
   slot-is true h = omega (arith, h .pending refl .0, h .number)
 
   pub page-is : (owed : Bool) → newest-page (found pages slots count owed) ≡ page-of pages slots count
-  unfolding newest-page
   page-is false = refl
   page-is true = refl
 
@@ -45,16 +43,13 @@ module _ (pages slots : ℕ) (ring : List ℕ) (count : ℕ) (recs : List (List 
   targets true h = target-pending pages slots ring count recs h
 
 pub not-blank : (owed : Bool) (pages slots count : ℕ) → is-blank (found pages slots count owed) ≡ false
-unfolding is-blank
 not-blank true pages slots count = refl
 not-blank false pages slots count = refl
 
 pub not-unreadable : (owed : Bool) (pages slots count : ℕ) → is-unreadable (found pages slots count owed) ≡ false
-unfolding is-unreadable
 not-unreadable true pages slots count = refl
 not-unreadable false pages slots count = refl
 
 pub pending-is : (owed : Bool) (pages slots count : ℕ) → is-pending (found pages slots count owed) ≡ owed
-unfolding is-pending
 pending-is true pages slots count = refl
 pending-is false pages slots count = refl

@@ -7,7 +7,7 @@ use native.Mathlib.Nat.{div-add-mod', mod-lt, div-lt-iff-lt-mul}
 use native.Mathlib.Omega.{arith}
 use Rattle.octets.specs.Limits.{slot-length}
 use Rattle.octets.specs.Octets.{part, blank}
-use Rattle.ring.specs.Ring.{ring-wrong, slot-at, is-record, half-named, page-before, Newest, Blank, Unreadable, At, AtPending, read-ring, is-blank, is-unreadable, newest-page, newest-slot, newest-record, Within}
+use Rattle.ring.specs.Ring.{ring-wrong, slot-at, is-record, half-named, page-before, Newest, Blank, Unreadable, At, AtPending, read-ring, is-blank, is-unreadable, newest-record, Within}
 use Rattle.ring.specs.Readable.{Reads}
 use Rattle.ring.proofs.SizeLaws.{Sized, sized}
 use Rattle.ring.proofs.TurnLaws.{next-laws}
@@ -25,7 +25,6 @@ module _ (pages slots : ℕ) (ring : List ℕ) (w : ring-wrong pages slots ring 
 
   -- its place lies in the ring
   pub read-within : Within pages slots (read-ring ring pages slots)
-  unfolding newest-page newest-slot
   read-within = go (read-ring ring pages slots) so
     where
       go : (n : Newest) → Reads ring pages slots n → Within pages slots n
@@ -37,7 +36,7 @@ module _ (pages slots : ℕ) (ring : List ℕ) (w : ring-wrong pages slots ring 
   -- it is a record, and names a half
   pub newest-is-record : is-blank (read-ring ring pages slots) ≡ false → is-unreadable (read-ring ring pages slots) ≡ false
       → is-record (newest-record ring slots (read-ring ring pages slots)) ≡ true
-  unfolding is-blank is-unreadable newest-record newest-page newest-slot
+  unfolding newest-record
   newest-is-record b u = go (read-ring ring pages slots) so b u
     where
       go : (n : Newest) → Reads ring pages slots n → is-blank n ≡ false → is-unreadable n ≡ false → is-record (newest-record ring slots n) ≡ true
@@ -68,7 +67,6 @@ module _ (pages slots : ℕ) (ring : List ℕ) (w : ring-wrong pages slots ring 
       ∙ reads-exactly pages slots ring w Blank .0 e (i / slots) (div-lt-iff-lt-mul some .1 h) (i % slots) (mod-lt i some))
 
   pub is-blank-all : is-blank (read-ring ring pages slots) ≡ blank ring
-  unfolding is-blank
   is-blank-all = go (read-ring ring pages slots) refl (blank ring) refl
     where
       go : (n : Newest) → read-ring ring pages slots ≡ n → (t : Bool) → blank ring ≡ t → is-blank n ≡ t

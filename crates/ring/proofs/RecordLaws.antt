@@ -7,14 +7,16 @@ use mathlib.Core.List.{List·Memᴰ, List·Memᴰ·head, List·Memᴰ·tail, Lis
 use mathlib.Core.Logic.{_⊎_, inl, inr}
 use native.Mathlib.Nat.{suc-add, zero-add, add-zero}
 use native.Mathlib.Omega.{arith}
-use lib.ListN.{length, take, drop, length-append}
+use lib.ListN.{length, take, drop, length-append, drop-of-length-le}
 use lib.Dec.{eqb, ltb}
 use lib.Seq.{take-at, drop-at, take-append-le}
+use borrow.Rule.Slice.PartMut.{putMid}
 use borrow.Author.Tests.{lt-ltb, ltb-true, eq-eqb}
 use Rattle.octets.specs.Limits.{slot-length, nonce-length}
 use Rattle.octets.specs.Octets.{part, put, same, blank, erased, number}
 use Rattle.octets.specs.Word.{word-at, kind-of, value-of, word}
-use Rattle.octets.proofs.Laws.{part-append-right, blank-append, erased-split, blank-erased, blank-part, is-erased, and-true}
+use Rattle.octets.proofs.Laws.{put-front, length-put, part-append-right, blank-append, erased-split, blank-erased, blank-part, is-erased, and-true}
+use Rattle.octets.proofs.Lent.{put-part}
 use Rattle.octets.proofs.Numbers.{length-word, word-front, word-behind, kind-is, value-is}
 use Rattle.ring.specs.Ring.{is-record, half-named, record-of, records, filled, nonce-in}
 
@@ -197,3 +199,13 @@ module _ (slots : ℕ) (recs : List (List ℕ)) (a : Records recs) where
       rw (s, ← append-assoc) (drop-at (A ++ erased slot-length) (erased m) (slot-length * n + length r) (omega (arith, length-append A (erased slot-length), length-concat recs a))) in
       let c : concat (recs ++ r ∷ []) ≡ A ++ r = concat-append recs (r ∷ []) ∙ ap (λ x. A ++ x) (append-nil r) in
       rw (t, d, c, append-assoc)
+
+-- a string written over zeros, and another behind it
+pub written-behind : (m k : ℕ) (zeros x y a b : List ℕ) → length zeros ≡ m + k → length x ≡ m → length y ≡ k
+    → a ≡ put zeros 0 x → b ≡ put (part a m k) 0 y → putMid m k a b ≡ x ++ y
+unfolding put
+written-behind m k zeros x y a b lz lx ly ha hb =
+    let la : length a ≡ m + k = ap length ha ∙ length-put zeros 0 x (omega arith) ∙ lz in
+    let front : take m a ≡ x = ap (take m) (ha ∙ put-front zeros x) ∙ take-at x (drop (length x) zeros) m lx in
+    ap (putMid m k a) hb ∙ put-part m k 0 a y (omega arith) (omega arith)
+    ∙ rw (add-zero m, front, drop-of-length-le a {i = m + length y} (omega arith), append-nil)

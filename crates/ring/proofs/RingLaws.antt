@@ -217,13 +217,11 @@ module _ (pages slots : ℕ) (ring : List ℕ) (count : ℕ) (recs : List (List 
   pub target-pages : Ringed pages slots ring count false recs
       → (target-page pages slots (At (page-of pages slots count) (slot-of slots count)) ≡ page-of pages slots (count + 1))
       × (target-slot slots (At (page-of pages slots count) (slot-of slots count)) ≡ slot-of slots (count + 1))
-  unfolding newest-page newest-slot
   target-pages h = targets h (At (page-of pages slots count) (slot-of slots count)) refl refl
 
   pub target-pending : Ringed pages slots ring count true recs
       → (target-page pages slots (AtPending (page-of pages slots count) (page-before pages (page-of pages slots count))) ≡ page-of pages slots (count + 1))
       × (target-slot slots (AtPending (page-of pages slots count) (page-before pages (page-of pages slots count))) ≡ slot-of slots (count + 1))
-  unfolding newest-page newest-slot
   target-pending h =
       let p : ℕ = page-of pages slots count in
       targets h (AtPending p (page-before pages p)) refl (omega (arith, h .number, h .pending refl .0))

@@ -94,32 +94,32 @@ read-ring ring pages slots = reading ring pages slots (used-from ring slots 0 pa
 -- ---- what was found
 
 -- stops 6, 7 and 9
-unfoldable pub is-blank : Newest → Bool
+abbrev pub is-blank : Newest → Bool
 is-blank Blank = true
 is-blank Unreadable = false
 is-blank (At p s) = false
 is-blank (AtPending p q) = false
 
-unfoldable pub is-unreadable : Newest → Bool
+abbrev pub is-unreadable : Newest → Bool
 is-unreadable Blank = false
 is-unreadable Unreadable = true
 is-unreadable (At p s) = false
 is-unreadable (AtPending p q) = false
 
-unfoldable pub is-pending : Newest → Bool
+abbrev pub is-pending : Newest → Bool
 is-pending Blank = false
 is-pending Unreadable = false
 is-pending (At p s) = false
 is-pending (AtPending p q) = true
 
 -- the newest record's place; of a ring that has none, page 0 and slot 0
-unfoldable pub newest-page : Newest → ℕ
+abbrev pub newest-page : Newest → ℕ
 newest-page Blank = 0
 newest-page Unreadable = 0
 newest-page (At p s) = p
 newest-page (AtPending p q) = p
 
-unfoldable pub newest-slot : Newest → ℕ
+abbrev pub newest-slot : Newest → ℕ
 newest-slot Blank = 0
 newest-slot Unreadable = 0
 newest-slot (At p s) = s
