@@ -4,3 +4,5 @@ pub mod SealedLaws
 pub mod Offsets
 pub mod HalfLaws
 pub mod StoredLaws
+pub mod Staged
+pub mod Sealing

@@ -3,3 +3,4 @@ pub mod Fram
 pub mod Checkpoint
 pub mod Half
 pub mod Layout
+pub mod Prepared

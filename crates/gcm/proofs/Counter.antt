@@ -45,21 +45,44 @@ add-twice =
 
 -- ---- the bytes of GCTR
 
+pub length-add-bytes : (X S : List ℕ) → length (add-bytes X S) ≡ length X
+unfolding add-bytes
+length-add-bytes X S = length-table (length X) _
+
+pub getD-add-bytes : (X S : List ℕ) (i : ℕ) → i < length X → getD (add-bytes X S) i 0 ≡ getD X i 0 ⊕ getD S i 0
+unfolding add-bytes
+getD-add-bytes X S i h = getD-table (length X) (λ i. getD X i 0 ⊕ getD S i 0) i h
+
+pub length-added : (X S : List ℕ) (at : ℕ) → length (add-bytes (part X at 16) S) ≤ length X - at
+unfolding part
+length-added X S at = rw length-add-bytes (simp (length-take, length-drop) (omega arith))
+
 -- byte j of the key stream
 abbrev pub stream : (List ℕ → List ℕ) → List ℕ → ℕ → ℕ
 stream CIPH ICB j = getD (CIPH (CB ICB (j / 16))) (j % 16) 0
 
 module _ (CIPH : List ℕ → List ℕ) (ICB X : List ℕ) where
-  length-block : (i : ℕ) → length (add-bytes (part X (16 * i) 16) (CIPH (CB ICB i))) ≡ length (part X (16 * i) 16)
-  unfolding add-bytes
-  length-block i = length-table (length (part X (16 * i) 16)) _
-
   length-blocks : (n : ℕ) → 16 * n ≤ length X + 15 → (16 * n ≤ length X → length (GCTRᵢ CIPH ICB X n) ≡ 16 * n) × (length X ≤ 16 * n → length (GCTRᵢ CIPH ICB X n) ≡ length X)
   unfolding GCTRᵢ part
   length-blocks zero h = (λ k. refl, λ k. omega arith)
   length-blocks (suc n) h =
       let before : length (GCTRᵢ CIPH ICB X n) ≡ 16 * n = length-blocks n (omega arith) .0 (omega arith) in
-      (λ k. simp (length-append, length-block, length-take, length-drop) (omega arith), λ k. simp (length-append, length-block, length-take, length-drop) (omega arith))
+      (λ k. simp (length-append, length-add-bytes, length-take, length-drop) (omega arith), λ k. simp (length-append, length-add-bytes, length-take, length-drop) (omega arith))
+
+  -- blocks before which some text is left are whole
+  pub length-before : (n : ℕ) → 16 * n ≤ length X → length (GCTRᵢ CIPH ICB X n) ≡ 16 * n
+  length-before n h = length-blocks n (omega arith) .0 h
+
+  -- no more bytes than the text has
+  pub length-within : (n : ℕ) → 16 * n ≤ length X + 15 → length (GCTRᵢ CIPH ICB X n) ≤ length X
+  length-within n h = go (length-blocks n h) (ltb (16 * n) (length X)) refl
+    where
+      go : (16 * n ≤ length X → length (GCTRᵢ CIPH ICB X n) ≡ 16 * n) × (length X ≤ 16 * n → length (GCTRᵢ CIPH ICB X n) ≡ length X)
+          → (t : Bool) → ltb (16 * n) (length X) ≡ t → length (GCTRᵢ CIPH ICB X n) ≤ length X
+      go b true e =
+          let l : 16 * n < length X = ltb-true (16 * n) (length X) e in
+          omega (arith, b .0 (omega arith))
+      go b false e = omega (arith, b .1 (ltb-false (16 * n) (length X) e))
 
   pub length-GCTR : length (GCTR CIPH ICB X) ≡ length X
   unfolding GCTR

@@ -10,7 +10,7 @@ use Rattle.octets.specs.Octets.{same, bytes}
 use Rattle.octets.proofs.Laws.{same-refl, same-equal, equal-same, unequal-same}
 use Rattle.octets.proofs.Numbers.{length-bytes}
 use Rattle.gcm.specs.Ghash.{GHASH}
-use Rattle.gcm.specs.Gcm.{H, J0, inc32, hash-input, AE-text, AE-tag, GCM-AE, GCM-AD, encrypted, tag}
+use Rattle.gcm.specs.Gcm.{hash-subkey, J0, inc32, hash-input, AE-text, AE-tag, GCM-AE, GCM-AD, encrypted, tag}
 use Rattle.gcm.proofs.Counter.{length-GCTR, GCTR-twice}
 
 module _ (CIPH : List ℕ → List ℕ) (IV : List ℕ) where
@@ -25,7 +25,7 @@ module _ (CIPH : List ℕ → List ℕ) (IV : List ℕ) where
   pub length-AE-tag : (A C : List ℕ) → length (AE-tag CIPH IV A C) ≡ 16
   unfolding AE-tag
   length-AE-tag A C =
-      length-GCTR CIPH (J0 IV) (bytes 16 (GHASH (H CIPH) (hash-input A C))) ∙ length-bytes 16 (GHASH (H CIPH) (hash-input A C))
+      length-GCTR CIPH (J0 IV) (bytes 16 (GHASH (hash-subkey CIPH) (hash-input A C))) ∙ length-bytes 16 (GHASH (hash-subkey CIPH) (hash-input A C))
 
   -- what was sealed opens to itself
   pub sealed-opens : (P A : List ℕ) → GCM-AD CIPH IV (GCM-AE CIPH IV P A .0) A (GCM-AE CIPH IV P A .1) ≡ some P

@@ -37,9 +37,9 @@ GCTRᵢ CIPH ICB X (suc i) = GCTRᵢ CIPH ICB X i ++ add-bytes (part X (16 * i) 
 unfoldable pub GCTR : (List ℕ → List ℕ) → List ℕ → List ℕ → List ℕ
 GCTR CIPH ICB X = GCTRᵢ CIPH ICB X (blocks (length X))
 
--- Algorithm 4, step 1: the hash subkey
-unfoldable pub H : (List ℕ → List ℕ) → ℕ
-H CIPH = number (CIPH (replicate 16 0)) 0 16
+-- Algorithm 4, step 1: the hash subkey H
+unfoldable pub hash-subkey : (List ℕ → List ℕ) → ℕ
+hash-subkey CIPH = number (CIPH (replicate 16 0)) 0 16
 
 -- step 2: the pre-counter block
 unfoldable pub J0 : List ℕ → List ℕ
@@ -62,7 +62,7 @@ hash-input A C = padded A ++ (padded C ++ lengths A C)
 
 -- steps 5 and 6: the tag T of A and C
 unfoldable pub AE-tag : (List ℕ → List ℕ) → List ℕ → List ℕ → List ℕ → List ℕ
-AE-tag CIPH IV A C = GCTR CIPH (J0 IV) (bytes 16 (GHASH (H CIPH) (hash-input A C)))
+AE-tag CIPH IV A C = GCTR CIPH (J0 IV) (bytes 16 (GHASH (hash-subkey CIPH) (hash-input A C)))
 
 -- Algorithm 4, authenticated encryption: C and T
 unfoldable pub GCM-AE : (List ℕ → List ℕ) → (IV P A : List ℕ) → List ℕ × List ℕ
