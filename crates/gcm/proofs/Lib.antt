@@ -5,3 +5,7 @@ pub mod Laws
 pub mod Words
 pub mod Product
 pub mod Hashing
+pub mod Keys
+pub mod Checks
+pub mod Outcomes
+pub mod Theorems

@@ -2,3 +2,4 @@
 pub mod Ghash
 pub mod Gcm
 pub mod Steps
+pub mod Calls

@@ -10,7 +10,7 @@ use aes::cipher::encrypt_block;
 use octets::fill;
 ghost use mathlib.Core.Path.{_≡_};
 ghost use Prim.Native.Nat.{_^_, _<_};
-ghost use lib.ListN.{length};
+ghost use lib.ListN.{length, replicate};
 ghost use Rattle.aes.specs.Word.{RoundTable};
 ghost use Rattle.aes.specs.Cipher.{cipher};
 ghost use Rattle.gcm.specs.Gcm.{hash-subkey, AE-tag};
@@ -52,4 +52,13 @@ pub fn tag_of(
         &mut t,
     );
     t
+}
+
+// Overwrites the steps, once they are not needed any more.
+pub fn wipe_steps(steps: &mut [u64])
+    ensures { λ _. ⌜ now (steps .exit) ≡ replicate (length (now (steps .entry))) 0 ⌝ }
+{
+    for i in 0..steps.len() {
+        steps[i] = 0;
+    }
 }

@@ -5,3 +5,4 @@ pub mod Operations
 pub mod Journal
 pub mod History
 pub mod Recovery
+pub mod Histories

@@ -16,6 +16,10 @@ use Rattle.checkpoint.specs.Half.{open-length, stored-restarts, good-head, good
 use Rattle.protocol.specs.Types.{Phase, EraseFirst, Words, Record, EraseAfter, Done, Origin, Save, PowerUp, Job, Session, Progress, GoingOn, Saved, Restored, Refused, Start, Begun, Stopped, Looked, Restarts, Unseen, Stretch}
 use Rattle.protocol.specs.Calls.{Sizes, FirstSave, Saves, PowersUp, Looks, Advances}
 
+-- what reading a ring of these sizes finds
+abbrev pub newest-in : List ℕ → Sizes → Newest
+newest-in ring z = read-ring ring (z .pages) (z .slots)
+
 -- ---- conditions of document 01's table
 
 -- stop 3, of a length
@@ -114,7 +118,7 @@ module _ (ring fram : List ℕ) where
 
   unfoldable pub save-stop : Saves → Option ℕ
   save-stop a =
-      let n = read-ring ring (a .arguments .sizes .pages) (a .arguments .sizes .slots) in
+      let n = newest-in ring (a .arguments .sizes) in
       first-of (
       (1, ring-wrong (a .arguments .sizes .pages) (a .arguments .sizes .slots) ring) ∷
       (2, fram-wrong fram) ∷
@@ -128,7 +132,7 @@ module _ (ring fram : List ℕ) where
 
   unfoldable pub save : Saves → Begin
   save a =
-      let n = read-ring ring (a .arguments .sizes .pages) (a .arguments .sizes .slots) in
+      let n = newest-in ring (a .arguments .sizes) in
       begin (save-stop a) (a .arguments .key) (save-checkpoint a (a .session .tag))
       (job-of (a .arguments .key) (save-checkpoint a (a .session .tag)) (Words 0) Save (1 - half-named (newest-record ring (a .arguments .sizes .slots) n))
       (target-page (a .arguments .sizes .pages) (a .arguments .sizes .slots) n) (target-slot (a .arguments .sizes .slots) n))
@@ -139,7 +143,7 @@ module _ (ring fram : List ℕ) where
 
   unfoldable pub power-up-stop : PowersUp → Option ℕ
   power-up-stop a =
-      let n = read-ring ring (a .sizes .pages) (a .sizes .slots) in
+      let n = newest-in ring (a .sizes) in
       let half = newest-half (a .sizes .slots) n in
       first-of (
       (1, ring-wrong (a .sizes .pages) (a .sizes .slots) ring) ∷
@@ -156,12 +160,12 @@ module _ (ring fram : List ℕ) where
   -- the checkpoint that the newest record names
   unfoldable pub newest-checkpoint : PowersUp → Checkpoint
   newest-checkpoint a =
-      let n = read-ring ring (a .sizes .pages) (a .sizes .slots) in
+      let n = newest-in ring (a .sizes) in
       stored (a .key) (take nonce-length (newest-record ring (a .sizes .slots) n)) (newest-half (a .sizes .slots) n)
 
   unfoldable pub power-up : PowersUp → Begin
   power-up a =
-      let n = read-ring ring (a .sizes .pages) (a .sizes .slots) in
+      let n = newest-in ring (a .sizes) in
       let old = newest-checkpoint a in
       let new = resumed (a .key) (a .nonce) old in
       begin (power-up-stop a) (a .key) new
@@ -173,7 +177,7 @@ module _ (ring fram : List ℕ) where
 
   unfoldable pub look-stop : Looks → Option ℕ
   look-stop a =
-      let n = read-ring ring (a .sizes .pages) (a .sizes .slots) in
+      let n = newest-in ring (a .sizes) in
       let half = newest-half (a .sizes .slots) n in
       first-of (
       (1, ring-wrong (a .sizes .pages) (a .sizes .slots) ring) ∷
@@ -191,7 +195,7 @@ look-by none restarts = Restarts restarts
 
 unfoldable pub look : List ℕ → List ℕ → Looks → Looked
 look ring fram a =
-    let n = read-ring ring (a .sizes .pages) (a .sizes .slots) in
+    let n = newest-in ring (a .sizes) in
     look-by (look-stop ring fram a) (stored-restarts (newest-half ring fram (a .sizes .slots) n))
 
 -- the open part as a stretch of the FRAM image; an empty one, which document 01 leaves open, stands at 0
@@ -201,7 +205,7 @@ stretch-by none offset length = record { offset = offset; length = length }
 
 unfoldable pub open-stretch : List ℕ → List ℕ → Looks → Stretch
 open-stretch ring fram a =
-    let n = read-ring ring (a .sizes .pages) (a .sizes .slots) in
+    let n = newest-in ring (a .sizes) in
     stretch-by (look-stop ring fram a) (half-named (newest-record ring (a .sizes .slots) n) * half-length fram + head-length)
     (open-length (newest-half ring fram (a .sizes .slots) n))
 
@@ -280,11 +284,14 @@ stored-word fram staging j w = put fram (j .half * half-length fram + 4 * w) (pa
 unfoldable pub recorded : List ℕ → ℕ → Job → List ℕ
 recorded ring slots j = record-put ring slots (j .page) (j .slot) (job-record j)
 
+-- the page before the target, on a ring with the record, awaits erasing
+unfoldable pub erase-follows : List ℕ → Sizes → Job → Bool
+erase-follows ring z j = eqb (j .slot) 0 && not (blank (page-at ring (z .slots) (page-before (z .pages) (j .page))))
+
 unfoldable pub after-record : List ℕ → List ℕ → Sizes → Job → Moved
 after-record ring fram z j =
     let new = recorded ring (z .slots) j in
-    let older = page-before (z .pages) (j .page) in
-    cond (eqb (j .slot) 0 && not (blank (page-at new (z .slots) older))) (going-on j (EraseAfter older) new fram) (ended j new fram)
+    cond (erase-follows new z j) (going-on j (EraseAfter (page-before (z .pages) (j .page))) new fram) (ended j new fram)
 
 unfoldable pub store : Phase → List ℕ → List ℕ → Advances → Moved
 store (EraseFirst p) ring fram a = going-on (a .job) (Words 0) (page-erased ring (a .sizes .slots) p) fram
