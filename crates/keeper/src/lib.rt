@@ -1,6 +1,11 @@
 // The checkpoint keeper (document 01): a job or a session goes in by value, and its successor comes out.
+mod advance;
+mod buffers;
+mod job;
+mod memories;
 mod types;
 
+pub use buffers::wipe;
 pub use types::Advanced;
 pub use types::Job;
 pub use types::Looked;
