@@ -1,18 +1,20 @@
 -- Laws of numbers as bytes, and of words. Assumes nothing.
 use mathlib.Core.Path.{_≡_, refl, sym, ap, ap₂, _∙_}
-use mathlib.Core.List.{List, _++_}
+use mathlib.Core.Bool.{Bool, true, false}
+use mathlib.Core.List.{List, [], _∷_, _++_}
 use Prim.Native.Nat.{ℕ, zero, suc, _+_, _-_, _*_, _/_, _%_, _^_, _≤_, _<_}
-use native.Mathlib.Nat.{add-zero, zero-add, add-suc, add-assoc, add-mul, mul-assoc, mul-one, mod-one, mod-eq-of-lt, not-suc-le-zero, le-of-suc-le-suc}
+use native.Mathlib.Nat.{add-zero, zero-add, add-suc, add-assoc, add-mul, mul-assoc, mul-one, mod-one, mod-eq-of-lt, mod-lt, not-suc-le-zero, le-of-suc-le-suc}
 use native.Mathlib.Numerals.{one-add}
 use native.Mathlib.Omega.{arith}
 use lib.Arith.{digits-lt, digits-div, digits-mod}
-use lib.Dec.{lit<}
-use lib.ListN.{length, getD, List·getD-append}
+use lib.Dec.{lit<, ltb}
+use lib.ListN.{length, getD, List·getD-append, List·getD-eq-default}
 use lib.Seq.{getD-append-add}
 use lib.Pow.{pow-add, mod-pow-add}
+use borrow.Author.Tests.{ltb-true, ltb-false}
 use Rattle.octets.specs.Octets.{part, number, bytes}
 use Rattle.octets.specs.Word.{word-at, kind-of, value-of, word}
-use Rattle.octets.proofs.Laws.{getD-part}
+use Rattle.octets.proofs.Laws.{length-part, getD-part}
 
 pow8-suc : (n : ℕ) → 2 ^ (8 * suc n) ≡ 2 ^ (8 * n) * 256
 pow8-suc n = ap (λ (x : ℕ). 2 ^ x) (let e : 8 * suc n ≡ 8 * n + 8 = omega arith in e) ∙ pow-add 2 (8 * n) 8
@@ -80,6 +82,49 @@ number-bytes-mod (suc n) x =
 
 pub number-bytes : (n x : ℕ) → x < 2 ^ (8 * n) → number (bytes n x) 0 n ≡ x
 number-bytes n x h = number-bytes-mod n x ∙ mod-eq-of-lt h
+
+-- the first byte and those behind it
+number-cons : (x : ℕ) (xs : List ℕ) (n : ℕ) → number (x ∷ xs) 0 (suc n) ≡ x * 2 ^ (8 * n) + number xs 0 n
+number-cons x xs n =
+    ap (number (x ∷ xs) 0) (let e : suc n ≡ 1 + n = omega arith in e)
+    ∙ number-split (x ∷ xs) 0 1 n
+    ∙ ap₂ (λ (y z : ℕ). y * 2 ^ (8 * n) + z) (number-one (x ∷ xs) 0) (number-right (x ∷ []) xs 1 n refl)
+
+-- two strings of n bytes with one number are equal
+pub number-injective : (n : ℕ) (xs ys : List ℕ) → length xs ≡ n → length ys ≡ n → ((i : ℕ) → getD xs i 0 < 256) → ((i : ℕ) → getD ys i 0 < 256)
+    → number xs 0 n ≡ number ys 0 n → xs ≡ ys
+number-injective zero [] [] lx ly bx by e = refl
+number-injective zero (x ∷ xs) ys lx ly bx by e = absurd (omega arith)
+number-injective zero [] (y ∷ ys) lx ly bx by e = absurd (omega arith)
+number-injective (suc n) [] ys lx ly bx by e = absurd (omega arith)
+number-injective (suc n) (x ∷ xs) [] lx ly bx by e = absurd (omega arith)
+number-injective (suc n) (x ∷ xs) (y ∷ ys) lx ly bx by e =
+    let j : x * 2 ^ (8 * n) + number xs 0 n ≡ y * 2 ^ (8 * n) + number ys 0 n = sym (number-cons x xs n) ∙ e ∙ number-cons y ys n in
+    let lowx : number xs 0 n < 2 ^ (8 * n) = number-lt xs 0 n (λ i. bx (suc i)) in
+    let lowy : number ys 0 n < 2 ^ (8 * n) = number-lt ys 0 n (λ i. by (suc i)) in
+    let first : x ≡ y = sym (digits-div x lowx) ∙ ap (λ (z : ℕ). z / 2 ^ (8 * n)) j ∙ digits-div y lowy in
+    let later : number xs 0 n ≡ number ys 0 n = sym (digits-mod x lowx) ∙ ap (λ (z : ℕ). z % 2 ^ (8 * n)) j ∙ digits-mod y lowy in
+    let rest : xs ≡ ys = number-injective n xs ys (omega arith) (omega arith) (λ i. bx (suc i)) (λ i. by (suc i)) later in
+    cc
+
+bytes-small : (n x i : ℕ) → getD (bytes n x) i 0 < 256
+unfolding bytes
+bytes-small zero x i = lit< tt
+bytes-small (suc n) x zero = mod-lt (x / 2 ^ (8 * n)) (lit< tt)
+bytes-small (suc n) x (suc i) = bytes-small n x i
+
+-- the bytes of the number that stands in a string
+pub bytes-number : (s : List ℕ) (at n : ℕ) → at + n ≤ length s → ((i : ℕ) → getD s i 0 < 256) → bytes n (number s at n) ≡ part s at n
+bytes-number s at n h b =
+    number-injective n (bytes n (number s at n)) (part s at n) (length-bytes n (number s at n)) (length-part s at n h) (bytes-small n (number s at n)) small
+    (number-bytes n (number s at n) (number-lt s at n b) ∙ sym (number-part s at n 0 n (omega arith) ∙ ap (λ (i : ℕ). number s i n) (add-zero at)))
+  where
+    small : (i : ℕ) → getD (part s at n) i 0 < 256
+    small i = go (ltb i n) refl
+      where
+        go : (t : Bool) → ltb i n ≡ t → getD (part s at n) i 0 < 256
+        go true e = rw (getD-part s at n i (ltb-true i n e)) (b (at + i))
+        go false e = rw (List·getD-eq-default (part s at n) 0 {n = i} (omega (arith, ltb-false i n e, length-part s at n h))) (lit< tt)
 
 -- ---- words
 

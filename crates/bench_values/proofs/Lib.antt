@@ -1,0 +1,2 @@
+-- The bench values hold of the definitions.
+pub mod Proved

@@ -1,0 +1,130 @@
+-- Document 01's bench values M1 to M13 (its section "Bench values"), as one statement over one list: what the definitions give, beside what document 01 says.
+use Prim.Native.Nat.{ℕ, _/_}
+use mathlib.Core.Path.{_≡_}
+use mathlib.Core.Bool.{Bool, true, false}
+use mathlib.Core.Option.{none}
+use mathlib.Core.List.{List, [], _∷_, _++_, map}
+use lib.ListN.{length, replicate}
+use Rattle.octets.specs.Limits.{slot-length, key-length, nonce-length, tag-length}
+use Rattle.octets.specs.Octets.{erased}
+use Rattle.aes.specs.Field.{xtime, sub-byte}
+use Rattle.ring.specs.Ring.{Newest, Blank, Unreadable, At, AtPending, is-record, half-named, read-ring, target-page, target-slot}
+use Rattle.checkpoint.specs.Checkpoint.{Checkpoint, sealed}
+use Rattle.protocol.specs.Journal.{Journal, stores-of}
+
+-- ---- rings of 3 pages with 2 slots
+
+abbrev no-record : List ℕ
+no-record = erased slot-length
+
+abbrev R : List ℕ
+R = replicate nonce-length 0 ++ 0x40 ∷ 0 ∷ 0 ∷ 0 ∷ []
+
+abbrev zero-byte : List ℕ
+zero-byte = 0 ∷ erased 15
+
+-- place word 0x80000000
+abbrev kind-two : List ℕ
+kind-two = replicate nonce-length 0 ++ 0x80 ∷ 0 ∷ 0 ∷ 0 ∷ []
+
+-- twelve 0xFF and 0x40000001
+abbrev in-half-B : List ℕ
+in-half-B = replicate nonce-length 0xFF ++ 0x40 ∷ 0 ∷ 0 ∷ 1 ∷ []
+
+-- the ring with these bytes in its slots, page by page
+abbrev ring : (a b c d e f : List ℕ) → List ℕ
+ring a b c d e f = a ++ b ++ c ++ d ++ e ++ f
+
+abbrev M1 : List ℕ
+M1 = ring no-record no-record no-record no-record no-record no-record
+
+abbrev M2 : List ℕ
+M2 = ring R no-record no-record no-record no-record no-record
+
+abbrev M3 : List ℕ
+M3 = ring R R no-record no-record no-record no-record
+
+abbrev M4 : List ℕ
+M4 = ring R R R no-record no-record no-record
+
+abbrev M5 : List ℕ
+M5 = ring R no-record no-record no-record R no-record
+
+abbrev M6 : List ℕ
+M6 = ring zero-byte no-record R no-record no-record no-record
+
+abbrev M7 : List ℕ
+M7 = ring R no-record R R no-record no-record
+
+abbrev M8 : List ℕ
+M8 = ring R no-record R no-record R no-record
+
+abbrev M9 : List ℕ
+M9 = ring no-record R no-record no-record no-record no-record
+
+abbrev M10 : List ℕ
+M10 = ring kind-two no-record no-record no-record no-record no-record
+
+abbrev M11 : List ℕ
+M11 = ring in-half-B no-record no-record no-record no-record no-record
+
+-- ---- a checkpoint with an open part of 8 bytes and a secret part of 4, and journals before its start
+
+abbrev pub M13 : Checkpoint
+M13 = record { open-part = replicate 8 0; secret = replicate 4 0; restarts = 0; previous = replicate tag-length 0; nonce = replicate nonce-length 0 }
+
+abbrev pub key : List ℕ
+key = replicate key-length 0
+
+-- with this many records, and an erase owed or not
+abbrev pub journal : ℕ → Bool → Journal
+journal count owed = record { entry = none; count = count; owed = owed; draft = none; power-ups = 0 }
+
+-- ---- the table
+
+pub data Value : Type 0 where
+  reads : Newest → Value
+  target : (page slot : ℕ) → Value
+  a-record : Bool → (half : ℕ) → Value
+  byte : ℕ → Value
+  lengths : (bytes words : ℕ) → Value
+  stores : ℕ → Value
+
+abbrev read : List ℕ → Value
+read r = reads (read-ring r 3 2)
+
+-- where the next record goes, as read-ring finds it
+abbrev next : List ℕ → Value
+next r = target (target-page 3 2 (read-ring r 3 2)) (target-slot 2 (read-ring r 3 2))
+
+abbrev stores-after : Journal → Value
+stores-after j = stores (length (stores-of key 2 j M13))
+
+-- what the definitions give, and what document 01 says
+abbrev pub table : List (Value × Value)
+table =
+    (read M1, reads Blank) ∷
+    (read M2, reads (At 0 0)) ∷
+    (next M2, target 0 1) ∷
+    (read M3, reads (At 0 1)) ∷
+    (next M3, target 1 0) ∷
+    (read M4, reads (AtPending 1 0)) ∷
+    (read M5, reads (AtPending 0 2)) ∷
+    (read M6, reads (AtPending 1 0)) ∷
+    (read M7, reads Unreadable) ∷
+    (read M8, reads Unreadable) ∷
+    (read M9, reads Unreadable) ∷
+    (read M10, reads Unreadable) ∷
+    (read M11, reads (At 0 0)) ∷
+    (a-record (is-record in-half-B) (half-named in-half-B), a-record true 1) ∷
+    (byte (sub-byte 0x00), byte 0x63) ∷
+    (byte (sub-byte 0x53), byte 0xED) ∷
+    (byte (xtime 0x57), byte 0xAE) ∷
+    (byte (xtime 0xAE), byte 0x47) ∷
+    (lengths (length (sealed key M13)) (length (sealed key M13) / 4), lengths 56 14) ∷
+    (stores-after (journal 0 false), stores 15) ∷
+    (stores-after (journal 2 false), stores 16) ∷
+    (stores-after (journal 3 true), stores 16) ∷ []
+
+unfoldable pub Values : Type 0
+Values = map (λ v. v .0) table ≡ map (λ v. v .1) table

@@ -1,0 +1,64 @@
+-- The sizes of a FRAM image and where its halves lie. Assumes nothing.
+use Prim.Native.Nat.{ℕ, zero, suc, _+_, _*_, _%_, _≤_}
+use mathlib.Core.Path.{_≡_, refl}
+use mathlib.Core.Bool.{false}
+use mathlib.Core.Logic.{_⊎_, inl, inr}
+use mathlib.Core.List.{List}
+use lib.ListN.{length}
+use borrow.Author.Tests.{eqb-true, ltb-false, not-false}
+use native.Mathlib.Omega.{arith}
+use Rattle.octets.specs.Limits.{fram-least, fram-limit, fram-step}
+use Rattle.octets.specs.Octets.{part}
+use Rattle.octets.proofs.Laws.{length-part, part-part}
+use Rattle.stops.proofs.Laws.{neither}
+use Rattle.checkpoint.specs.Fram.{fram-wrong, half-length, half-at}
+
+pub record FramSizes (size : ℕ) : Type 0 where
+  pub low : fram-least ≤ size
+  pub high : size ≤ fram-limit
+  pub whole : size % fram-step ≡ 0
+
+pub fram-sizes : (fram : List ℕ) → fram-wrong fram ≡ false → FramSizes (length fram)
+unfolding fram-wrong
+fram-sizes fram e =
+    let a = neither _ _ e in
+    let b = neither _ _ (a .0) in
+    record { low = ltb-false _ _ (b .0); high = ltb-false _ _ (b .1); whole = eqb-true _ _ (not-false _ (a .1)) }
+
+-- only the length counts
+pub fram-kept : (fram fram′ : List ℕ) → length fram′ ≡ length fram → fram-wrong fram ≡ false → fram-wrong fram′ ≡ false
+unfolding fram-wrong
+fram-kept fram fram′ l e = rw l e
+
+pub half-kept : (fram fram′ : List ℕ) → length fram′ ≡ length fram → half-length fram′ ≡ half-length fram
+unfolding half-length
+half-kept fram fram′ l = rw l
+
+pub two-halves : (fram : List ℕ) → fram-wrong fram ≡ false → 2 * half-length fram ≡ length fram
+unfolding half-length
+two-halves fram e = let z = fram-sizes fram e in omega arith
+
+-- a half lies within the image
+pub half-within : (fram : List ℕ) (h : ℕ) → fram-wrong fram ≡ false → h ≤ 1 → h * half-length fram + half-length fram ≤ length fram
+half-within fram zero e l = omega (arith, two-halves fram e)
+half-within fram (suc zero) e l = omega (arith, two-halves fram e)
+half-within fram (suc (suc h)) e l = absurd (omega arith)
+
+pub half-long : (fram : List ℕ) (h : ℕ) → fram-wrong fram ≡ false → h ≤ 1 → length (half-at fram h) ≡ half-length fram
+unfolding half-at
+half-long fram h e l = length-part fram (h * half-length fram) (half-length fram) (half-within fram h e l)
+
+-- the two halves share no byte
+pub halves-apart : (size x y : ℕ) → x ≤ 1 → y ≤ 1 → (x ≡ y → ⊥) → (x * size + size ≤ y * size) ⊎ (y * size + size ≤ x * size)
+halves-apart size zero zero l m n = absurd (n refl)
+halves-apart size zero (suc zero) l m n = inl (omega arith)
+halves-apart size (suc zero) zero l m n = inr (omega arith)
+halves-apart size (suc zero) (suc zero) l m n = absurd (n refl)
+halves-apart size zero (suc (suc y)) l m n = absurd (omega arith)
+halves-apart size (suc zero) (suc (suc y)) l m n = absurd (omega arith)
+halves-apart size (suc (suc x)) y l m n = absurd (omega arith)
+
+-- a part of a half is that part of the image
+pub part-of-half : (fram : List ℕ) (h i n : ℕ) → i + n ≤ half-length fram → part (half-at fram h) i n ≡ part fram (h * half-length fram + i) n
+unfolding half-at
+part-of-half fram h i n l = part-part fram (h * half-length fram) (half-length fram) i n l

@@ -1,0 +1,29 @@
+-- Document 01's offsets in a sealed checkpoint, each as a number of its own: what the definitions of Checkpoint.antt come to.
+use Prim.Native.Nat.{ℕ, _+_, _-_, _/_, _%_, _≤_}
+use mathlib.Core.Path.{_≡_}
+use mathlib.Core.List.{List}
+use lib.ListN.{length}
+use Rattle.octets.specs.Limits.{part-limit, restart-limit, tag-length}
+use Rattle.octets.specs.Octets.{part}
+use Rattle.octets.specs.Word.{word-at}
+use Rattle.gcm.specs.Gcm.{encrypted}
+use Rattle.checkpoint.specs.Checkpoint.{Checkpoint, own-tag, sealed}
+
+-- both parts are whole words and not too long, the restarts in range, and a tag comes before
+pub record InRange (c : Checkpoint) : Type 0 where
+  pub open-whole : length (c .open-part) % 4 ≡ 0
+  pub open-small : length (c .open-part) ≤ part-limit
+  pub secret-whole : length (c .secret) % 4 ≡ 0
+  pub secret-small : length (c .secret) ≤ part-limit
+  pub restarts-small : c .restarts ≤ restart-limit
+  pub previous-long : length (c .previous) ≡ tag-length
+
+pub record Layout (key : List ℕ) (c : Checkpoint) : Type 0 where
+  pub open-words : word-at (sealed key c) 0 ≡ 0x40000000 + length (c .open-part) / 4
+  pub secret-words : word-at (sealed key c) 4 ≡ 0x80000000 + length (c .secret) / 4
+  pub restarts : word-at (sealed key c) 8 ≡ 0xC0000000 + c .restarts
+  pub previous : part (sealed key c) 12 16 ≡ c .previous
+  pub open-part : part (sealed key c) 28 (length (c .open-part)) ≡ c .open-part
+  pub secret : part (sealed key c) (28 + length (c .open-part)) (length (c .secret)) ≡ encrypted key (c .nonce) (c .secret)
+  pub tag : part (sealed key c) (length (sealed key c) - 16) 16 ≡ own-tag key c
+  pub long : length (sealed key c) ≡ 44 + length (c .open-part) + length (c .secret)

@@ -1,0 +1,11 @@
+-- Laws of the definitions in specs/, for this crate and those above it.
+pub mod Counter
+pub mod Blocks
+pub mod Laws
+pub mod Words
+pub mod Product
+pub mod Hashing
+pub mod Keys
+pub mod Checks
+pub mod Outcomes
+pub mod Theorems

@@ -1,0 +1,84 @@
+-- Sealing and opening, offered alone: document 01, "The cipher", and of its stops the rows 3, 4 and 12.
+use mathlib.Core.Bool.{Bool, not, _||_}
+use mathlib.Core.List.{List, [], _∷_}
+use mathlib.Core.Option.{Option, none, some}
+use Prim.Native.Nat.{ℕ}
+use lib.Dec.{eqb, ltb}
+use lib.ListN.{length, replicate}
+use Rattle.octets.specs.Limits.{key-length, nonce-length, tag-length, text-limit}
+use Rattle.octets.specs.Octets.{put, same}
+use Rattle.stops.specs.Stops.{first-of}
+use Rattle.stops.specs.View.{check-number}
+use Rattle.stops.specs.declared.Check.{Check}
+use Rattle.gcm.specs.Gcm.{encrypted, tag}
+use Rattle.gcm.specs.declared.Sealed.{Sealed}
+
+-- conditions on lengths in bytes
+abbrev pub key-wrong : ℕ → Bool
+key-wrong n = not (eqb n key-length)
+
+abbrev pub nonce-wrong : ℕ → Bool
+nonce-wrong n = not (eqb n nonce-length)
+
+abbrev pub tag-wrong : ℕ → Bool
+tag-wrong n = not (eqb n tag-length)
+
+-- a text or associated data above the limit, or an output shorter than the text
+abbrev pub buffers-wrong : (aad text out : ℕ) → Bool
+buffers-wrong aad text out = ltb text-limit aad || ltb text-limit text || ltb out text
+
+-- ---- sealing
+
+unfoldable pub seal-stop : (key nonce aad text out : ℕ) → Option ℕ
+seal-stop key nonce aad text out = first-of ((3, key-wrong key || nonce-wrong nonce) ∷ (4, buffers-wrong aad text out) ∷ [])
+
+-- what a sealing answers, and what the output holds afterwards
+pub record Sealing : Type 0 where
+  pub stop : Option ℕ
+  pub tag : List ℕ
+  pub out : List ℕ
+
+-- on a stop the output is as it was, and the tag, which document 01 leaves open, is sixteen zeros
+unfoldable pub sealing-at : Option ℕ → (key nonce aad text out : List ℕ) → Sealing
+sealing-at (some n) key nonce aad text out = record { stop = some n; tag = replicate tag-length 0; out = out }
+sealing-at none key nonce aad text out =
+    let cipher = encrypted key nonce text in
+    record { stop = none; tag = tag key nonce aad cipher; out = put out 0 cipher }
+
+unfoldable pub sealing : (key nonce aad text out : List ℕ) → Sealing
+sealing key nonce aad text out = sealing-at (seal-stop (length key) (length nonce) (length aad) (length text) (length out)) key nonce aad text out
+
+-- ---- opening
+
+-- the first two rows, which look at lengths alone
+unfoldable pub open-length-stop : (key nonce aad text given out : ℕ) → Option ℕ
+open-length-stop key nonce aad text given out = first-of ((3, key-wrong key || nonce-wrong nonce || tag-wrong given) ∷ (4, buffers-wrong aad text out) ∷ [])
+
+unfoldable pub open-stop : (key nonce aad text given out : List ℕ) → Option ℕ
+open-stop key nonce aad text given out =
+    first-of
+    ((3, key-wrong (length key) || nonce-wrong (length nonce) || tag-wrong (length given))
+    ∷ (4, buffers-wrong (length aad) (length text) (length out))
+    ∷ (12, not (same given (tag key nonce aad text)))
+    ∷ [])
+
+-- what an opening answers, and what the output holds afterwards
+pub record Opening : Type 0 where
+  pub stop : Option ℕ
+  pub out : List ℕ
+
+-- on a stop the output is as it was
+unfoldable pub opening-at : Option ℕ → (key nonce text out : List ℕ) → Opening
+opening-at (some n) key nonce text out = record { stop = some n; out = out }
+opening-at none key nonce text out = record { stop = none; out = put out 0 (encrypted key nonce text) }
+
+unfoldable pub opening : (key nonce aad text given out : List ℕ) → Opening
+opening key nonce aad text given out = opening-at (open-stop key nonce aad text given out) key nonce text out
+
+-- ---- the code's answers, with what it left in the output
+
+abbrev pub sealed-as : Sealed → List ℕ → Sealing
+sealed-as r out = record { stop = check-number (r .check); tag = r .tag; out = out }
+
+abbrev pub opened-as : Check → List ℕ → Opening
+opened-as r out = record { stop = check-number r; out = out }

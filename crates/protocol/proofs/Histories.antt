@@ -1,0 +1,321 @@
+-- Every unit has the lists of specs/Histories.antt.
+use Prim.Native.Nat.{ℕ, zero, suc, _+_, _-_, _/_, _%_, _^_, _≤_, _<_}
+use mathlib.Core.Path.{_≡_, refl, sym, ap, subst, subst₂, _∙_}
+use mathlib.Core.Bool.{Bool, true, false, _||_}
+use mathlib.Core.Logic.{_⊎_, inl, inr}
+use mathlib.Core.Option.{none, some}
+use mathlib.Core.List.{List, [], _∷_, _++_, List·Memᴰ, List·Memᴰ·head, List·Memᴰ·cases-cons, List·Memᴰ·not-nil}
+use native.Mathlib.Nat.{add-zero}
+use native.Mathlib.Omega.{arith}
+use lib.ListN.{length, length-replicate}
+use lib.Dec.{ltb, lit<}
+use borrow.Author.Tests.{eq-eqb, le-ltb}
+use Rattle.octets.specs.Limits.{fram-limit, part-limit, restart-limit, key-length, nonce-length}
+use Rattle.octets.specs.Octets.{blank, put, number, bytes}
+use Rattle.octets.proofs.Laws.{same-refl}
+use Rattle.octets.proofs.Numbers.{length-bytes, number-bytes}
+use Rattle.stops.specs.Stops.{first-of}
+use Rattle.ring.specs.Ring.{At, record-of, newest-record, not-newest}
+use Rattle.ring.proofs.RingLaws.{page-of, slot-of}
+use Rattle.ring.proofs.FoundLaws.{found, not-blank, not-unreadable, pending-is}
+use Rattle.checkpoint.specs.Fram.{fram-wrong, half-length}
+use Rattle.checkpoint.specs.Checkpoint.{Checkpoint, part-wrong, sealed}
+use Rattle.checkpoint.proofs.FramLaws.{fram-sizes, two-halves}
+use Rattle.protocol.specs.Types.{Session, Save, PowerUp, Words}
+use Rattle.protocol.specs.Calls.{FirstSave, Saves, PowersUp, Setup, Event, first-saved, saved, powered-up}
+use Rattle.protocol.specs.Journal.{drafted, stores-of, power-up-draft, empty}
+use Rattle.protocol.specs.Operations.{key-wrong, nonce-wrong, staging-wrong, parts-wrong, stale, job-of, first-checkpoint, first-save-stop, save-checkpoint, save-stop}
+use Rattle.protocol.specs.History.{State, fresh, run, Keeps, Allowed}
+use Rattle.protocol.specs.Recovery.{Fits, Last}
+use Rattle.protocol.specs.Histories.{to-its-end, staging-room, state-room, numbered-first, numbered-save, numbered-power-up, with-session, saves-on, power-ups-on, history, Reachable}
+use Rattle.protocol.proofs.Invariant.{half-of, session-in, Holds}
+use Rattle.protocol.proofs.Facts.{no-fact}
+use Rattle.protocol.proofs.Reading.{reads, record-found, new-nonce}
+use Rattle.protocol.proofs.FirstSaves.{first-begun, first-step}
+use Rattle.protocol.proofs.Saves.{saving-job, save-begun, save-step}
+use Rattle.protocol.proofs.PowerUps.{resuming-job, resuming-holds, step-is}
+use Rattle.protocol.proofs.Lists.{hold-fresh}
+use Rattle.protocol.proofs.Recovery.{stop-none}
+use Rattle.protocol.proofs.Runs.{Whole, whole, run-append, allowed-append, Rests, rests}
+
+-- ---- numbered nonces
+
+-- the nonces of starts that were numbered below n
+abbrev Below : ℕ → List (List ℕ) → Type 0
+Below n nonces = (m : List ℕ) → List·Memᴰ m nonces → number m 0 nonce-length < n
+
+below-new : (n : ℕ) (nonces : List (List ℕ)) → n < 2 ^ 96 → Below n nonces → List·Memᴰ (bytes nonce-length n) nonces → ⊥
+below-new n nonces h b m = omega (arith, b (bytes nonce-length n) m, number-bytes nonce-length n h)
+
+below-more : (n : ℕ) (nonces : List (List ℕ)) → n < 2 ^ 96 → Below n nonces → Below (suc n) (bytes nonce-length n ∷ nonces)
+below-more n nonces h b m k = go (List·Memᴰ·cases-cons k)
+  where
+    go : (m ≡ bytes nonce-length n) ⊎ List·Memᴰ m nonces → number m 0 nonce-length < suc n
+    go (inl e) = rw (e, number-bytes nonce-length n h) (omega arith)
+    go (inr l) = omega (arith, b m l)
+
+-- ---- conditions that such starts pass
+
+length-staging : length staging-room ≡ fram-limit / 2
+unfolding staging-room
+length-staging = length-replicate {A = ℕ} (fram-limit / 2) 0
+
+length-state : length state-room ≡ part-limit
+unfolding state-room
+length-state = length-replicate {A = ℕ} part-limit 0
+
+room : (fram : List ℕ) → fram-wrong fram ≡ false → half-length fram ≤ length staging-room
+unfolding half-length
+room fram e = rw length-staging (let z = fram-sizes fram e in omega arith)
+
+module _ (u : Setup) (key-long : length (u .key) ≡ key-length) (i : ℕ) where
+  sizes-pass : key-wrong (length (u .key)) || nonce-wrong (length (bytes nonce-length i)) ≡ false
+  sizes-pass = rw (eq-eqb (length (u .key)) key-length key-long, eq-eqb (length (bytes nonce-length i)) nonce-length (length-bytes nonce-length i))
+
+parts-pass : (fram : List ℕ) → fram-wrong fram ≡ false → parts-wrong [] [] fram || staging-wrong staging-room fram ≡ false
+unfolding parts-wrong part-wrong staging-wrong
+parts-pass fram e =
+    let z = fram-sizes fram e in
+    let l : ltb (half-length fram) 44 ≡ false = le-ltb (half-length fram) 44 (omega (arith, two-halves fram e)) in
+    rw l (le-ltb (length staging-room) (half-length fram) (room fram e))
+
+-- ---- the first save
+
+first-passes : (u : Setup) (ring fram : List ℕ) → blank ring ≡ true → Fits u ring fram → (i : ℕ) → first-save-stop ring fram (numbered-first u i) ≡ none
+unfolding first-save-stop first-of
+first-passes u ring fram b f i = rw (f .ring-right, f .fram-right, sizes-pass u (f .key-right) i, parts-pass fram (f .fram-right), b)
+
+-- ---- each start, run to its end
+
+-- after the start numbered n, with a checkpoint of k restarts
+record After (u : Setup) (s : State) (n k : ℕ) : Type 0 where
+  c : Checkpoint
+  at-rest : Rests u s c
+  count : s .journal .count ≡ n
+  restarts : c .restarts ≡ k
+  numbers : Below n (s .nonces)
+
+after-whole : (u : Setup) (s : State) (n : ℕ) (c : Checkpoint) (events : List Event) → Whole u s c (bytes nonce-length n) events
+    → s .journal .count ≡ n → Below n (s .nonces) → n < 2 ^ 96 → After u (run u s events) (suc n) (c .restarts)
+after-whole u s n c events w e b h = record {
+  c = c;
+  at-rest = rests u (run u s events) c (w .holds) (w .ended);
+  count = omega (arith, w .count, e);
+  restarts = refl;
+  numbers = rw (w .nonces) (below-more n (s .nonces) h b);
+}
+
+module _ (u : Setup) (ring fram : List ℕ) (b : blank ring ≡ true) (f : Fits u ring fram) where
+  abbrev start : State
+  start = fresh ring fram
+
+  inv : Holds u start
+  inv = hold-fresh u ring fram (f .ring-right) (f .fram-right) b
+
+  unused : List·Memᴰ (bytes nonce-length 0) (start .nonces) → ⊥
+  unfolding fresh
+  unused m = absurd (List·Memᴰ·not-nil m)
+
+  passes : first-save-stop (start .ring) (start .fram) (numbered-first u 0) ≡ none
+  unfolding fresh
+  passes = first-passes u ring fram b f 0
+
+  first-whole : Whole u start (first-checkpoint (numbered-first u 0)) (bytes nonce-length 0) (to-its-end u start (first-saved (numbered-first u 0)))
+  unfolding drafted first-checkpoint Keeps
+  first-whole =
+      let a : FirstSave = numbered-first u 0 in
+      let c : Checkpoint = first-checkpoint a in
+      let is = first-step u start inv a unused passes in
+      whole u start (first-saved a) c Save (bytes nonce-length 0) (record { job = job-of (u .key) c (Words 0) Save 0 0 0; staging = put staging-room 0 (sealed (u .key) c) })
+      (refl, refl, unused) (subst (λ (y : State). Holds u y) (sym is) (first-begun u start inv a unused passes))
+      (ap (λ (y : State). y .handed) is) (ap (λ (y : State). y .journal .draft) is) (ap (λ (y : State). y .journal .count) is) (ap (λ (y : State). y .nonces) is)
+
+  first-after : After u (run u start (to-its-end u start (first-saved (numbered-first u 0)))) 1 0
+  unfolding fresh empty first-checkpoint
+  first-after = after-whole u start 0 (first-checkpoint (numbered-first u 0)) (to-its-end u start (first-saved (numbered-first u 0))) first-whole refl (λ m k. absurd (List·Memᴰ·not-nil k)) (lit< tt)
+
+-- a power-up
+module _ (u : Setup) (key-long : length (u .key) ≡ key-length) (s : State) (n k : ℕ) (x : After u s n k) (h : n < 2 ^ 96) where
+  new-here : List·Memᴰ (bytes nonce-length n) (s .nonces) → ⊥
+  new-here = below-new n (s .nonces) h (x .numbers)
+
+  last-here : Last u s (numbered-power-up u n)
+  last-here = record {
+    sizes = refl;
+    key = refl;
+    nonce-long = length-bytes nonce-length n;
+    nonce-new = new-here;
+    staging = room (s .fram) (x .at-rest .holds .fram-right);
+    state = rw length-state (omega arith);
+  }
+
+  module _ (few : k < restart-limit) where
+    abbrev next : Checkpoint
+    next = power-up-draft (u .key) (bytes nonce-length n) (x .c)
+
+    fewer : x .c .restarts ≡ restart-limit → ⊥
+    fewer e = omega (arith, x .restarts)
+
+    power-whole : Whole u s next (bytes nonce-length n) (to-its-end u s (powered-up (numbered-power-up u n)))
+    unfolding drafted power-up-draft Keeps
+    power-whole =
+        let a : PowersUp = numbered-power-up u n in
+        let holds = x .at-rest .holds in
+        let r = x .at-rest .entry in
+        let is = step-is u s holds a (x .c) r (stop-none u s holds a key-long last-here (x .c) r fewer) in
+        whole u s (powered-up a) next PowerUp (bytes nonce-length n) (record { job = resuming-job u s next; staging = put staging-room 0 (sealed (u .key) next) })
+        (refl, refl, new-here)
+        (subst (λ (y : State). Holds u y) (sym is) (resuming-holds u s holds a (x .c) r (last-here .nonce-long) (last-here .staging) new-here fewer))
+        (ap (λ (y : State). y .handed) is)
+        (ap (λ (y : State). y .journal .draft) is ∙ (λ i. some (record { checkpoint = next; origin = PowerUp; power-ups = r .restarts-are i + 1; stores = stores-of (u .key) (u .sizes .slots) (s .journal) next })))
+        (ap (λ (y : State). y .journal .count) is) (ap (λ (y : State). y .nonces) is)
+
+    power-after : After u (run u s (to-its-end u s (powered-up (numbered-power-up u n)))) (suc n) (suc k)
+    unfolding power-up-draft
+    power-after =
+        let e : x .c .restarts + 1 ≡ suc k = omega (arith, x .restarts) in
+        subst (λ (m : ℕ). After u (run u s (to-its-end u s (powered-up (numbered-power-up u n)))) (suc n) m) e
+        (after-whole u s n next (to-its-end u s (powered-up (numbered-power-up u n))) power-whole (x .count) (x .numbers) h)
+
+-- ---- a save with the session handed out last
+
+found-newest : (ring : List ℕ) (pages slots count : ℕ) (owed : Bool) (r : List ℕ) → owed ≡ false → newest-record ring slots (found pages slots count owed) ≡ r
+    → not-newest ring slots (found pages slots count owed) (page-of pages slots count) (slot-of slots count) r ≡ false
+unfolding not-newest
+found-newest ring pages slots count true r o e = no-fact o
+found-newest ring pages slots count false r o e =
+    rw (e, same-refl r, eq-eqb (page-of pages slots count) (page-of pages slots count) refl, eq-eqb (slot-of slots count) (slot-of slots count) refl)
+
+module _ (u : Setup) (key-long : length (u .key) ≡ key-length) (s : State) (n k : ℕ) (x : After u s n k) (h : n < 2 ^ 96) where
+  abbrev session-here : Session
+  session-here = session-in u (s .journal .count) (x .c)
+
+  abbrev call-here : Saves
+  call-here = numbered-save u n session-here
+
+  mine : List·Memᴰ session-here (s .sessions)
+  mine = rw (x .at-rest .ended .session) (List·Memᴰ·head refl)
+
+  not-stale : stale (s .ring) (u .sizes .slots) (found (u .sizes .pages) (u .sizes .slots) (s .journal .count) (s .journal .owed)) session-here ≡ false
+  unfolding stale
+  not-stale = found-newest (s .ring) (u .sizes .pages) (u .sizes .slots) (s .journal .count) (s .journal .owed) (record-of (x .c .nonce) (half-of (s .journal .count)))
+      (x .at-rest .ended .owed) (record-found (x .at-rest .holds .fram-right) (x .at-rest .entry))
+
+  save-passes : save-stop (s .ring) (s .fram) call-here ≡ none
+  unfolding save-stop first-of
+  save-passes =
+      let inv = x .at-rest .holds in
+      let r = x .at-rest .entry in
+      rw (
+        inv .ring-right,
+        inv .fram-right,
+        sizes-pass u key-long n,
+        parts-pass (s .fram) (inv .fram-right),
+        reads (inv .fram-right) r,
+        not-blank (s .journal .owed) (u .sizes .pages) (u .sizes .slots) (s .journal .count),
+        not-unreadable (s .journal .owed) (u .sizes .pages) (u .sizes .slots) (s .journal .count),
+        not-stale,
+        pending-is (s .journal .owed) (u .sizes .pages) (u .sizes .slots) (s .journal .count) ∙ x .at-rest .ended .owed,
+        new-nonce (inv .fram-right) r (bytes nonce-length n) (new-here u key-long s n k x h),
+      )
+
+  abbrev kept : Checkpoint
+  kept = save-checkpoint call-here (session-here .tag)
+
+  save-whole : Whole u s kept (bytes nonce-length n) (to-its-end u s (saved call-here))
+  unfolding drafted save-checkpoint Keeps
+  save-whole =
+      let new = new-here u key-long s n k x h in
+      let is = save-step u s (x .at-rest .holds) call-here new mine save-passes in
+      whole u s (saved call-here) kept Save (bytes nonce-length n)
+      (record { job = saving-job u s (x .at-rest .holds) call-here new mine; staging = put staging-room 0 (sealed (u .key) kept) })
+      (refl, refl, new, mine) (subst (λ (y : State). Holds u y) (sym is) (save-begun u s (x .at-rest .holds) call-here new mine save-passes))
+      (ap (λ (y : State). y .handed) is) (ap (λ (y : State). y .journal .draft) is) (ap (λ (y : State). y .journal .count) is) (ap (λ (y : State). y .nonces) is)
+
+  save-after : After u (run u s (to-its-end u s (saved call-here))) (suc n) 0
+  unfolding save-checkpoint
+  save-after = after-whole u s n kept (to-its-end u s (saved call-here)) save-whole (x .count) (x .numbers) h
+
+-- ---- several in a row
+
+record Row (u : Setup) (s : State) (events : List Event) (n k : ℕ) : Type 0 where
+  allowed : Allowed u s events
+  after : After u (run u s events) n k
+
+-- one start, and then a row
+row-more : (u : Setup) (s : State) (xs ys : List Event) (n k : ℕ) → Allowed u s xs → Row u (run u s xs) ys n k → Row u s (xs ++ ys) n k
+row-more u s xs ys n k a r = record {
+  allowed = allowed-append u xs ys s a (r .allowed);
+  after = subst (λ (t : State). After u t n k) (sym (run-append u xs ys s)) (r .after);
+}
+
+module _ (u : Setup) (key-long : length (u .key) ≡ key-length) where
+  power-ups-row : (i n k : ℕ) (s : State) → After u s i k → k + n ≤ restart-limit → i + n < 2 ^ 96 → Row u s (power-ups-on u i n s) (i + n) (k + n)
+  unfolding power-ups-on run Allowed
+  power-ups-row i zero k s x few h =
+      record { allowed = tt; after = subst₂ (λ (a b : ℕ). After u s a b) (sym (add-zero i)) (sym (add-zero k)) x }
+  power-ups-row i (suc n) k s x few h =
+      let events = to-its-end u s (powered-up (numbered-power-up u i)) in
+      let l : i < 2 ^ 96 = omega arith in
+      let m : suc i + n < 2 ^ 96 = omega arith in
+      let c : k < restart-limit = omega arith in
+      let more = power-ups-row (suc i) n (suc k) (run u s events) (power-after u key-long s i k x l c) (omega arith) m in
+      row-more u s events (power-ups-on u (suc i) n (run u s events)) (i + suc n) (k + suc n) (power-whole u key-long s i k x l c .allowed)
+      (subst₂ (λ (a b : ℕ). Row u (run u s events) (power-ups-on u (suc i) n (run u s events)) a b) (let e : suc i + n ≡ i + suc n = omega arith in e) (let e : suc k + n ≡ k + suc n = omega arith in e) more)
+
+  saves-row : (i n : ℕ) (s : State) → (k : ℕ) → After u s i k → (k ≡ 0) → i + n < 2 ^ 96 → Row u s (saves-on u i n s) (i + n) 0
+  unfolding saves-on with-session run Allowed
+  saves-row i zero s k x o h = record { allowed = tt; after = subst₂ (λ (a b : ℕ). After u s a b) (sym (add-zero i)) o x }
+  saves-row i (suc n) s k x o h =
+      let l : i < 2 ^ 96 = omega arith in
+      let m : suc i + n < 2 ^ 96 = omega arith in
+      let events = to-its-end u s (saved (call-here u key-long s i k x l)) in
+      let more = saves-row (suc i) n (run u s events) 0 (save-after u key-long s i k x l) refl m in
+      let e : suc i + n ≡ i + suc n = omega arith in
+      let is : saves-on u i (suc n) s ≡ events ++ saves-on u (suc i) n (run u s events) =
+      ap (λ (zs : List Session). with-session zs (λ z. to-its-end u s (saved (numbered-save u i z)) ++ saves-on u (suc i) n (run u s (to-its-end u s (saved (numbered-save u i z))))))
+      (x .at-rest .ended .session) in
+      subst (λ (l : List Event). Row u s l (i + suc n) 0) (sym is)
+      (row-more u s events (saves-on u (suc i) n (run u s events)) (i + suc n) 0 (save-whole u key-long s i k x l .allowed)
+      (subst (λ (a : ℕ). Row u (run u s events) (saves-on u (suc i) n (run u s events)) a 0) e more))
+
+found-at : (pages slots count n : ℕ) (owed : Bool) → owed ≡ false → count ≡ n + 1 → found pages slots count owed ≡ At (n / slots % pages) (n % slots)
+found-at pages slots count n true o e = no-fact o
+found-at pages slots count n false o e = let m : count - 1 ≡ n = omega arith in ap (λ (x : ℕ). At (x / slots % pages) (x % slots)) m
+
+pub reachable : Reachable
+unfolding Reachable history
+reachable u ring fram b f n k few h = record {
+  allowed = r .allowed;
+  count = omega (arith, r .after .count);
+  power-ups = r .after .at-rest .entry .restarts-are ∙ r .after .restarts;
+  newest = reads (r .after .at-rest .holds .fram-right) (r .after .at-rest .entry)
+      ∙ found-at (u .sizes .pages) (u .sizes .slots) (run u s events .journal .count) (n + k) (run u s events .journal .owed) (r .after .at-rest .ended .owed)
+      (omega (arith, r .after .count));
+}
+  where
+    s : State
+    s = fresh ring fram
+
+    first : List Event
+    first = to-its-end u s (first-saved (numbered-first u 0))
+
+    saves : List Event
+    saves = saves-on u 1 n (run u s first)
+
+    rs : Row u (run u s first) saves (1 + n) 0
+    rs = saves-row u (f .key-right) 1 n (run u s first) 0 (first-after u ring fram b f) refl (omega arith)
+
+    rp : Row u (run u (run u s first) saves) (power-ups-on u (n + 1) k (run u (run u s first) saves)) (n + 1 + k) k
+    rp =
+        let e : 1 + n ≡ n + 1 = omega arith in
+        let o : 0 + k ≡ k = omega arith in
+        subst (λ (m : ℕ). Row u (run u (run u s first) saves) (power-ups-on u (n + 1) k (run u (run u s first) saves)) (n + 1 + k) m) o
+        (power-ups-row u (f .key-right) (n + 1) k 0 (run u (run u s first) saves) (subst (λ (m : ℕ). After u (run u (run u s first) saves) m 0) e (rs .after))
+        (omega arith) (omega arith))
+
+    events : List Event
+    events = first ++ (saves ++ power-ups-on u (n + 1) k (run u (run u s first) saves))
+
+    r : Row u s events (n + 1 + k) k
+    r = row-more u s first _ (n + 1 + k) k (first-whole u ring fram b f .allowed) (row-more u (run u s first) saves _ (n + 1 + k) k (rs .allowed) rp)

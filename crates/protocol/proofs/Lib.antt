@@ -1,0 +1,23 @@
+-- The proof of the theorem Recovery, from what holds after every list to the theorem.
+pub mod Facts
+pub mod Invariant
+pub mod Reading
+pub mod Refused
+pub mod Exact
+pub mod Unfit
+pub mod Advances
+pub mod Records
+pub mod Advancing
+pub mod Told
+pub mod Starts
+pub mod FirstSaves
+pub mod Saves
+pub mod PowerUps
+pub mod PowerLosses
+pub mod Lists
+pub mod LastRun
+pub mod Looking
+pub mod Recovery
+pub mod Blind
+pub mod Runs
+pub mod Histories

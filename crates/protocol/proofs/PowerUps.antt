@@ -1,0 +1,170 @@
+-- What a power-up answers, and the invariant after it.
+use Prim.Native.Nat.{ℕ, _+_, _-_, _≤_}
+use mathlib.Core.Path.{_≡_, refl, sym, ap, subst, _∙_}
+use mathlib.Core.Bool.{Bool, true, false, cond}
+use mathlib.Core.Logic.{inl, inr}
+use mathlib.Core.Option.{Option, none, some}
+use mathlib.Core.List.{List, _∷_, List·Memᴰ}
+use native.Mathlib.Omega.{arith}
+use lib.ListN.{length}
+use lib.Dec.{eqb}
+use borrow.Author.Tests.{eqb-true, eqb-false, ltb-false, not-false}
+use Rattle.octets.specs.Limits.{restart-limit, nonce-length}
+use Rattle.octets.specs.Octets.{put}
+use Rattle.stops.proofs.Laws.{neither}
+use Rattle.ring.specs.Ring.{read-ring, half-named, target-page, target-slot, newest-record, is-blank, Newest}
+use Rattle.ring.proofs.FoundLaws.{found}
+use Rattle.checkpoint.specs.Checkpoint.{Checkpoint, sealed}
+use Rattle.checkpoint.specs.Half.{stored-restarts}
+use Rattle.checkpoint.specs.Fram.{half-length}
+use Rattle.checkpoint.proofs.SealedLaws.{length-own-tag}
+use Rattle.protocol.specs.Calls.{PowersUp, Setup, powered-up}
+use Rattle.protocol.specs.Journal.{entered, resumed-entry, Journal, drafted, power-up-draft}
+use Rattle.protocol.specs.Operations.{key-wrong, nonce-wrong, staging-wrong, Begin, begin, job-of, newest-half, newest-checkpoint, resumed, first-phase, power-up-stop, power-up}
+use Rattle.protocol.specs.History.{State, begun, step, Keeps, left-by, refused, is-stop}
+use Rattle.protocol.specs.Types.{PowerUp, Job, Phase}
+use Rattle.protocol.proofs.Invariant.{Good, half-of, page-in, slot-in, Recorded, Holds}
+use Rattle.protocol.proofs.Facts.{passed}
+use Rattle.protocol.proofs.Starts.{Begins, started, start-holds}
+use Rattle.protocol.proofs.Reading.{reads, target-page-found, target-slot-found, other-half, restarts-found, checkpoint-found}
+use Rattle.protocol.proofs.Starts.{begun-stopped, begun-none}
+use Rattle.protocol.proofs.Saves.{in-use-recorded}
+
+abbrev pub power-call : Setup → PowersUp → PowersUp
+power-call u a = record { sizes = u .sizes; key = u .key; nonce = a .nonce; staging = a .staging; state = a .state }
+
+abbrev pub Entry : Setup → State → Checkpoint → Type 0
+Entry u s c = Recorded u (s .ring) (s .fram) (s .nonces) (s .journal .entry) (s .journal .count) (s .journal .owed) (s .journal .power-ups) c
+
+-- the job of a power-up that resumes c
+abbrev pub resuming-job : Setup → State → Checkpoint → Job
+resuming-job u s new = job-of (u .key) new (first-phase (found (u .sizes .pages) (u .sizes .slots) (s .journal .count) (s .journal .owed))) PowerUp (half-of (s .journal .count + 1))
+    (page-in u (s .journal .count + 1)) (slot-in u (s .journal .count + 1))
+
+module _ (u : Setup) (s : State) (inv : Holds u s) (a : PowersUp) (c : Checkpoint) (r : Entry u s c) where
+  abbrev n : Newest
+  n = read-ring (s .ring) (u .sizes .pages) (u .sizes .slots)
+
+  reads-as : n ≡ found (u .sizes .pages) (u .sizes .slots) (s .journal .count) (s .journal .owed)
+  reads-as = reads (inv .fram-right) r
+
+  opened : newest-checkpoint (s .ring) (s .fram) (power-call u a) ≡ c
+  unfolding newest-checkpoint
+  opened = rw reads-as (checkpoint-found (inv .fram-right) r)
+
+  pub power-up-is : power-up (s .ring) (s .fram) (power-call u a)
+      ≡ begin (power-up-stop (s .ring) (s .fram) (power-call u a)) (u .key) (power-up-draft (u .key) (a .nonce) c) (resuming-job u s (power-up-draft (u .key) (a .nonce) c)) (a .staging) (a .state) (c .secret)
+  unfolding power-up resumed power-up-draft
+  power-up-is = λ i. F (opened i) (phase i) (half i) (page i) (slot i)
+    where
+      F : Checkpoint → Phase → ℕ → ℕ → ℕ → Begin
+      F old phase half page slot = begin (power-up-stop (s .ring) (s .fram) (power-call u a)) (u .key) (resumed (u .key) (a .nonce) old)
+          (job-of (u .key) (resumed (u .key) (a .nonce) old) phase PowerUp half page slot) (a .staging) (a .state) (old .secret)
+
+      phase : first-phase n ≡ first-phase (found (u .sizes .pages) (u .sizes .slots) (s .journal .count) (s .journal .owed))
+      phase = ap (λ (m : Newest). first-phase m) reads-as
+
+      half : 1 - half-named (newest-record (s .ring) (u .sizes .slots) n) ≡ half-of (s .journal .count + 1)
+      half = rw reads-as (other-half (inv .fram-right) r)
+
+      page : target-page (u .sizes .pages) (u .sizes .slots) n ≡ page-in u (s .journal .count + 1)
+      page = rw reads-as (target-page-found (inv .fram-right) r)
+
+      slot : target-slot (u .sizes .slots) n ≡ slot-in u (s .journal .count + 1)
+      slot = rw reads-as (target-slot-found (inv .fram-right) r)
+
+  begins : (owed : Bool) → s .journal .owed ≡ owed → Begins u s (first-phase (found (u .sizes .pages) (u .sizes .slots) (s .journal .count) owed))
+  unfolding first-phase
+  begins true e = inr (e, refl)
+  begins false e = inl (e, refl)
+
+  -- the state after a power-up that begins
+  pub resuming-holds : length (a .nonce) ≡ nonce-length → half-length (s .fram) ≤ length (a .staging) → (List·Memᴰ (a .nonce) (s .nonces) → ⊥) → (c .restarts ≡ restart-limit → ⊥)
+      → Holds u (started u s (power-up-draft (u .key) (a .nonce) c) PowerUp (s .journal .power-ups + 1) (resuming-job u s (power-up-draft (u .key) (a .nonce) c)) (a .staging))
+  unfolding power-up-draft
+  resuming-holds l long new few =
+      start-holds u s inv (power-up-draft (u .key) (a .nonce) c) PowerUp (first-phase (found (u .sizes .pages) (u .sizes .slots) (s .journal .count) (s .journal .owed)))
+      (half-of (s .journal .count + 1)) (page-in u (s .journal .count + 1)) (slot-in u (s .journal .count + 1)) (a .staging)
+      good new long refl refl refl (s .journal .power-ups + 1) (ap (λ (k : ℕ). k + 1) (r .restarts-are)) (begins (s .journal .owed) refl)
+    where
+      good : Good (power-up-draft (u .key) (a .nonce) c) (half-length (s .fram))
+      good = record {
+        range = record {
+          open-whole = r .good .range .open-whole;
+          open-small = r .good .range .open-small;
+          secret-whole = r .good .range .secret-whole;
+          secret-small = r .good .range .secret-small;
+          restarts-small = omega (arith, r .good .range .restarts-small, few);
+          previous-long = length-own-tag (u .key) c;
+        };
+        nonce-long = l;
+        fits = r .good .fits;
+      }
+
+  resumed-draft : resumed-entry (u .key) (a .nonce) (s .journal .entry) (s .journal) (u .sizes .slots) ≡ drafted (u .key) (u .sizes .slots) PowerUp (power-up-draft (u .key) (a .nonce) c) (s .journal .power-ups + 1) (s .journal)
+  unfolding resumed-entry
+  resumed-draft = ap (λ (o : Option Checkpoint). resumed-entry (u .key) (a .nonce) o (s .journal) (u .sizes .slots)) (r .entry-is)
+
+  pub step-is : power-up-stop (s .ring) (s .fram) (power-call u a) ≡ none
+      → step u s (powered-up (power-call u a)) ≡ started u s (power-up-draft (u .key) (a .nonce) c) PowerUp (s .journal .power-ups + 1) (resuming-job u s (power-up-draft (u .key) (a .nonce) c)) (a .staging)
+  unfolding step left-by entered refused power-up-draft
+  step-is e =
+      ap (λ (b : Begin). begun s (b .answer) b (a .nonce) (cond (is-stop (b .answer)) (s .journal) (resumed-entry (u .key) (a .nonce) (s .journal .entry) (s .journal) (u .sizes .slots)))) power-up-is
+      ∙ begun-none s (power-up-stop (s .ring) (s .fram) (power-call u a)) _ _ _ _ _ _ _ _ e
+      ∙ ap (λ (j : Journal). record {
+        ring = s .ring;
+        fram = s .fram;
+        handed = some (record { job = resuming-job u s (power-up-draft (u .key) (a .nonce) c); staging = put (a .staging) 0 (sealed (u .key) (power-up-draft (u .key) (a .nonce) c)) });
+        sessions = s .sessions;
+        nonces = a .nonce ∷ s .nonces;
+        journal = j;
+      }) resumed-draft
+
+-- ---- the conditions
+
+record Power-passes (u : Setup) (ring fram : List ℕ) (a : PowersUp) : Type 0 where
+  nonce-long : length (a .nonce) ≡ nonce-length
+  staging-long : half-length fram ≤ length (a .staging)
+  in-use : is-blank (read-ring ring (u .sizes .pages) (u .sizes .slots)) ≡ false
+  few : eqb (stored-restarts (newest-half ring fram (u .sizes .slots) (read-ring ring (u .sizes .pages) (u .sizes .slots)))) restart-limit ≡ false
+
+power-passes : (u : Setup) (ring fram : List ℕ) (a : PowersUp) → power-up-stop ring fram (power-call u a) ≡ none → Power-passes u ring fram a
+unfolding power-up-stop staging-wrong
+power-passes u ring fram a e =
+    let e₁ = passed _ _ _ (passed _ _ _ e .1) .1 in
+    let sizes = neither (key-wrong (length (u .key))) (nonce-wrong (length (a .nonce))) (passed _ _ _ e₁ .0) in
+    let e₂ = passed _ _ _ e₁ .1 in
+    let e₃ = passed _ _ _ e₂ .1 in
+    let e₄ = passed _ _ _ e₃ .1 in
+    let e₅ = passed _ _ _ e₄ .1 in
+    let e₆ = passed _ _ _ e₅ .1 in
+    let e₇ = passed _ _ _ e₆ .1 in
+    let e₈ = passed _ _ _ e₇ .1 in
+    record {
+      nonce-long = eqb-true (length (a .nonce)) nonce-length (not-false _ (sizes .1));
+      staging-long = ltb-false (length (a .staging)) (half-length fram) (neither _ _ (passed _ _ _ e₂ .0) .0);
+      in-use = passed _ _ _ e₃ .0;
+      few = passed _ _ _ e₈ .0;
+    }
+
+few-restarts : (u : Setup) (s : State) → Holds u s → (c : Checkpoint) → Entry u s c
+    → stored-restarts (newest-half (s .ring) (s .fram) (u .sizes .slots) (read-ring (s .ring) (u .sizes .pages) (u .sizes .slots))) ≡ c .restarts
+few-restarts u s inv c r = rw (reads (inv .fram-right) r)
+    (restarts-found (inv .fram-right) r)
+
+module _ (u : Setup) (s : State) (inv : Holds u s) (a : PowersUp) (new : List·Memᴰ (a .nonce) (s .nonces) → ⊥) where
+  power-go : (o : Option ℕ) → power-up-stop (s .ring) (s .fram) (power-call u a) ≡ o → Holds u (step u s (powered-up (power-call u a)))
+  unfolding step left-by entered refused power-up
+  power-go (some x) e = rw (begun-stopped s (power-up-stop (s .ring) (s .fram) (power-call u a)) _ _ _ _ _ _ _ _ x e) inv
+  power-go none e =
+      let p = power-passes u (s .ring) (s .fram) a e in
+      let x = in-use-recorded u s inv (p .in-use) in
+      subst (λ (t : State). Holds u t) (sym (step-is u s inv a (x .0) (x .1) e))
+      (resuming-holds u s inv a (x .0) (x .1) (p .nonce-long) (p .staging-long) new
+      (λ q. eqb-false (x .0 .restarts) restart-limit (rw (few-restarts u s inv (x .0) (x .1)) at (p .few)) q))
+
+pub hold-powered-up : (u : Setup) (s : State) (a : PowersUp) → Holds u s → Keeps u s (powered-up a) → Holds u (step u s (powered-up a))
+unfolding Keeps
+hold-powered-up u s a inv (p, q, f) =
+    let path : power-call u a ≡ a = λ i. record { sizes = sym p i; key = sym q i; nonce = a .nonce; staging = a .staging; state = a .state } in
+    subst (λ (b : PowersUp). Holds u (step u s (powered-up b))) path (power-go u s inv a f (power-up-stop (s .ring) (s .fram) (power-call u a)) refl)

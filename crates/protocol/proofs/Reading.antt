@@ -1,0 +1,94 @@
+-- What an operation finds in memories that hold a recorded checkpoint.
+use Prim.Native.Nat.{ℕ, _+_, _-_, _*_, _≤_}
+use mathlib.Core.Path.{_≡_, refl, sym, ap, subst, _∙_}
+use mathlib.Core.Bool.{Bool, true, false, _||_}
+use mathlib.Core.Option.{Option}
+use mathlib.Core.List.{List, [], _∷_, _++_, List·Memᴰ, List·Memᴰ·head, List·Memᴰ·tail}
+use native.Mathlib.Omega.{arith}
+use lib.ListN.{length, take, drop, take-append-drop}
+use lib.Seq.{take-take}
+use Rattle.octets.specs.Limits.{nonce-length}
+use Rattle.octets.specs.Octets.{part, same}
+use Rattle.octets.proofs.Laws.{Written, written-part, same-equal}
+use Rattle.ring.specs.Ring.{read-ring, half-named, target-page, target-slot, record-of, newest-record, nonce-used, Newest}
+use Rattle.ring.proofs.RingLaws.{any}
+use Rattle.ring.proofs.FoundLaws.{found, read-is, record-is, used-is, targets}
+use Rattle.ring.proofs.RecordLaws.{half-named-of, nonce-of-record}
+use Rattle.checkpoint.specs.Checkpoint.{Checkpoint, sealed}
+use Rattle.checkpoint.specs.Half.{good-head, good-tag, stored, stored-restarts}
+use Rattle.checkpoint.specs.Fram.{fram-wrong, half-length, half-at}
+use Rattle.checkpoint.proofs.HalfLaws.{restarts-is, head-passes, tag-passes, read-back}
+use Rattle.checkpoint.proofs.FramLaws.{half-within}
+use Rattle.protocol.specs.Calls.{Setup}
+use Rattle.protocol.specs.Operations.{newest-half}
+use Rattle.protocol.proofs.Invariant.{sealed-fits, half-of, page-in, slot-in, Recorded}
+
+-- the front of a part
+part-front : (xs ys : List ℕ) (base n : ℕ) → length ys ≤ n → base + n ≤ length xs → Written xs base (length ys) ys
+    → part xs base n ≡ ys ++ drop (length ys) (part xs base n)
+unfolding part
+part-front xs ys base n h l w =
+    sym (take-append-drop (length ys) (part xs base n)) ∙ ap (λ (f : List ℕ). f ++ drop (length ys) (part xs base n))
+    (take-take (length ys) n (drop base xs) h ∙ written-part xs ys base (omega arith) w)
+
+none-used : (nonce : List ℕ) (nonces : List (List ℕ)) → (List·Memᴰ nonce nonces → ⊥) → (recs : List (List ℕ))
+    → ((r : List ℕ) → List·Memᴰ r recs → List·Memᴰ (take nonce-length r) nonces) → any (λ r. same (take nonce-length r) nonce) recs ≡ false
+none-used nonce nonces f [] k = refl
+none-used nonce nonces f (r ∷ rs) k = go (none-used nonce nonces f rs (λ q m. k q (List·Memᴰ·tail m))) (same (take nonce-length r) nonce) refl
+  where
+    go : any (λ r. same (take nonce-length r) nonce) rs ≡ false → (b : Bool) → same (take nonce-length r) nonce ≡ b → (same (take nonce-length r) nonce || any (λ r. same (take nonce-length r) nonce) rs) ≡ false
+    go ih true e = absurd (f (subst (λ (n : List ℕ). List·Memᴰ n nonces) (same-equal (take nonce-length r) nonce e) (k r (List·Memᴰ·head refl))))
+    go ih false e = rw e ih
+
+module _ {u : Setup} {ring fram : List ℕ} {nonces : List (List ℕ)} {entry : Option Checkpoint} {count : ℕ} {owed : Bool} {power-ups : ℕ} {c : Checkpoint}
+    (right : fram-wrong fram ≡ false) (r : Recorded u ring fram nonces entry count owed power-ups c) where
+  abbrev newest : Newest
+  newest = found (u .sizes .pages) (u .sizes .slots) count owed
+
+  pub reads : read-ring ring (u .sizes .pages) (u .sizes .slots) ≡ newest
+  reads = read-is (u .sizes .pages) (u .sizes .slots) ring count (r .recs) owed (r .ringed)
+
+  pub record-found : newest-record ring (u .sizes .slots) newest ≡ record-of (c .nonce) (half-of count)
+  record-found = record-is (u .sizes .pages) (u .sizes .slots) ring count (r .recs) owed (r .ringed) ∙ r .latest
+
+  pub nonce-found : take nonce-length (newest-record ring (u .sizes .slots) newest) ≡ c .nonce
+  nonce-found = rw record-found (nonce-of-record (c .nonce) (half-of count) (r .good .nonce-long))
+
+  pub half-found : half-named (newest-record ring (u .sizes .slots) newest) ≡ half-of count
+  half-found = rw record-found (half-named-of (c .nonce) (half-of count) (r .good .nonce-long) (omega arith))
+
+  pub new-nonce : (nonce : List ℕ) → (List·Memᴰ nonce nonces → ⊥) → nonce-used ring (u .sizes .slots) newest nonce ≡ false
+  new-nonce nonce f = used-is (u .sizes .pages) (u .sizes .slots) ring count (r .recs) owed nonce (r .ringed) ∙ none-used nonce nonces f (r .recs) (r .known)
+
+  pub target-page-found : target-page (u .sizes .pages) (u .sizes .slots) newest ≡ page-in u (count + 1)
+  target-page-found = targets (u .sizes .pages) (u .sizes .slots) ring count (r .recs) owed (r .ringed) .0
+
+  pub target-slot-found : target-slot (u .sizes .slots) newest ≡ slot-in u (count + 1)
+  target-slot-found = targets (u .sizes .pages) (u .sizes .slots) ring count (r .recs) owed (r .ringed) .1
+
+  pub other-half : 1 - half-named (newest-record ring (u .sizes .slots) newest) ≡ half-of (count + 1)
+  other-half = rw half-found (omega (arith, r .ringed .some-record))
+
+  abbrev pub behind : List ℕ
+  behind = drop (length (sealed (u .key) c)) (half-at fram (half-of count))
+
+  half-holds : half-at fram (half-of count) ≡ sealed (u .key) c ++ behind
+  unfolding half-at
+  half-holds = part-front fram (sealed (u .key) c) (half-of count * half-length fram) (half-length fram) (sealed-fits (u .key) (r .good))
+      (half-within fram (half-of count) right (omega arith)) (r .there)
+
+  pub newest-half-is : newest-half ring fram (u .sizes .slots) newest ≡ sealed (u .key) c ++ behind
+  unfolding newest-half
+  newest-half-is = rw half-found half-holds
+
+  pub head-found : good-head (newest-half ring fram (u .sizes .slots) newest) ≡ true
+  head-found = rw newest-half-is (head-passes (u .key) c behind (r .good .range))
+
+  pub tag-found : good-tag (u .key) (take nonce-length (newest-record ring (u .sizes .slots) newest)) (newest-half ring fram (u .sizes .slots) newest) ≡ true
+  tag-found = rw (nonce-found, newest-half-is) (tag-passes (u .key) c behind (r .good .range))
+
+  pub restarts-found : stored-restarts (newest-half ring fram (u .sizes .slots) newest) ≡ c .restarts
+  restarts-found = rw newest-half-is (restarts-is (u .key) c behind (r .good .range))
+
+  pub checkpoint-found : stored (u .key) (take nonce-length (newest-record ring (u .sizes .slots) newest)) (newest-half ring fram (u .sizes .slots) newest) ≡ c
+  checkpoint-found = rw (nonce-found, newest-half-is) (read-back (u .key) c behind (r .good .range))

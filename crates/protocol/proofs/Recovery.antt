@@ -1,0 +1,178 @@
+-- The theorem Recovery (document 01: demand 3, the cut rule).
+use Prim.Native.Nat.{ℕ, _+_}
+use mathlib.Core.Path.{_≡_, refl, sym, ap, subst, _∙_}
+use mathlib.Core.Bool.{Bool, true, false, cond, _||_}
+use mathlib.Core.Logic.{inl, inr}
+use mathlib.Core.Option.{Option, none, some}
+use mathlib.Core.List.{List, [], _∷_}
+use native.Mathlib.Omega.{arith}
+use lib.ListN.{length}
+use lib.Dec.{eqb}
+use borrow.Author.Tests.{eq-eqb, ne-eqb, le-ltb, eqb-true, eqb-false}
+use Rattle.octets.specs.Limits.{part-limit, restart-limit, key-length, nonce-length}
+use Rattle.octets.specs.Octets.{put, blank}
+use Rattle.stops.specs.Stops.{first-of}
+use Rattle.ring.specs.Ring.{ring-wrong}
+use Rattle.ring.proofs.RingLaws.{read-blank}
+use Rattle.ring.proofs.FoundLaws.{not-blank, not-unreadable}
+use Rattle.checkpoint.specs.Checkpoint.{Checkpoint, sealed}
+use Rattle.checkpoint.specs.Fram.{fram-wrong, half-length}
+use Rattle.protocol.specs.Calls.{PowersUp, Setup, Event, powered-up}
+use Rattle.protocol.specs.Journal.{Store, drafted, stores-of, power-up-draft}
+use Rattle.protocol.specs.Operations.{key-wrong, nonce-wrong, staging-wrong, state-wrong, Begin, begin, power-up-stop, power-up}
+use Rattle.protocol.specs.History.{State, fresh, step, run, Allowed}
+use Rattle.protocol.specs.Types.{PowerUp, Begun, Stopped}
+use Rattle.protocol.specs.Recovery.{Exactly, Fits, Last, answers, Resumes, Outcome, Recovery}
+use Rattle.protocol.proofs.Invariant.{Durable-at, Untouched, Holds, Ended}
+use Rattle.protocol.proofs.Looking.{seen}
+use Rattle.protocol.proofs.Starts.{started}
+use Rattle.protocol.proofs.Reading.{reads, new-nonce, head-found, tag-found, restarts-found}
+use Rattle.protocol.proofs.PowerUps.{power-call, Entry, resuming-job, power-up-is, resuming-holds, step-is}
+use Rattle.protocol.proofs.Lists.{hold-run, exactly, exactly-unfit, hold-fresh}
+use Rattle.protocol.proofs.LastRun.{ends, runs-on, answering, stores-some, answers-end}
+
+-- ---- what the last power-up answers
+
+module _ (u : Setup) (s : State) (inv : Holds u s) (a : PowersUp) (key-long : length (u .key) ≡ key-length) (l : Last u s (power-call u a)) where
+  abbrev stop : Option ℕ
+  stop = power-up-stop (s .ring) (s .fram) (power-call u a)
+
+  sizes-pass : key-wrong (length (u .key)) || nonce-wrong (length (a .nonce)) ≡ false
+  sizes-pass = rw (eq-eqb (length (u .key)) key-length key-long, eq-eqb (length (a .nonce)) nonce-length (l .nonce-long))
+
+  buffers-pass : staging-wrong (a .staging) (s .fram) || state-wrong (a .state) ≡ false
+  unfolding staging-wrong state-wrong
+  buffers-pass = rw (le-ltb (length (a .staging)) (half-length (s .fram)) (l .staging), le-ltb (length (a .state)) part-limit (l .state))
+
+  stop-blank : blank (s .ring) ≡ true → stop ≡ some 6
+  unfolding power-up-stop first-of
+  stop-blank b = rw (inv .ring-right, inv .fram-right, sizes-pass, buffers-pass, read-blank (u .sizes .pages) (u .sizes .slots) (s .ring) (inv .ring-right) b)
+
+  pub stop-recorded : (c : Checkpoint) → Entry u s c → stop ≡ cond (eqb (c .restarts) restart-limit) (some 13) none
+  unfolding power-up-stop first-of
+  stop-recorded c r =
+      rw (
+        inv .ring-right,
+        inv .fram-right,
+        sizes-pass,
+        buffers-pass,
+        reads (inv .fram-right) r,
+        not-blank (s .journal .owed) (u .sizes .pages) (u .sizes .slots) (s .journal .count),
+        not-unreadable (s .journal .owed) (u .sizes .pages) (u .sizes .slots) (s .journal .count),
+        new-nonce (inv .fram-right) r (a .nonce) (l .nonce-new),
+        head-found (inv .fram-right) r,
+        tag-found (inv .fram-right) r,
+        restarts-found (inv .fram-right) r,
+      )
+
+  -- with nothing recorded
+  pub answer-stopped : (x : ℕ) → stop ≡ some x → power-up (s .ring) (s .fram) (power-call u a) .answer ≡ Stopped x
+  unfolding power-up begin
+  answer-stopped x e = rw e
+
+  outcome-blank : Untouched (s .ring) (s .journal .entry) (s .journal .count) (s .journal .owed) (s .journal .power-ups) → Outcome u s (power-call u a)
+  outcome-blank x =
+      let e = answer-stopped 6 (stop-blank (x .ring-blank)) in
+      record {
+        nothing = (λ q. x .no-entry, λ q. e);
+        worn = (λ q. absurd (let z : _≡_ {A = ℕ} 0 1 = cc in omega arith), λ q. absurd (omega (arith, x .no-power-up)));
+        resumes = λ c q f. absurd (let p = x .no-entry in let z : _≡_ {A = ℕ} 0 1 = cc in omega arith);
+      }
+
+  outcome-worn : (c : Checkpoint) → Entry u s c → c .restarts ≡ restart-limit → Outcome u s (power-call u a)
+  outcome-worn c r w =
+      let e = answer-stopped 13 (stop-recorded c r ∙ ap (λ (b : Bool). cond b (some 13) none) (eq-eqb (c .restarts) restart-limit w)) in
+      let p = r .entry-is in
+      record {
+        nothing = (λ q. absurd (let z : _≡_ {A = ℕ} 0 1 = cc in omega arith), λ q. absurd (let z : _≡_ {A = ℕ} 0 1 = cc in omega arith));
+        worn = (λ q. r .restarts-are ∙ w, λ q. e);
+        resumes = λ c′ q f. absurd (f (r .restarts-are ∙ w));
+      }
+
+  module _ (c : Checkpoint) (r : Entry u s c) (few : c .restarts ≡ restart-limit → ⊥) where
+    pub stop-none : stop ≡ none
+    stop-none = stop-recorded c r ∙ ap (λ (b : Bool). cond b (some 13) none) (ne-eqb (c .restarts) restart-limit few)
+
+    power-up-begins : power-up (s .ring) (s .fram) (power-call u a) ≡ record {
+      answer = Begun;
+      job = resuming-job u s (power-up-draft (u .key) (a .nonce) c);
+      secret-length = length (c .secret);
+      staging = put (a .staging) 0 (sealed (u .key) (power-up-draft (u .key) (a .nonce) c));
+      state = put (a .state) 0 (c .secret);
+    }
+    unfolding begin
+    power-up-begins = power-up-is u s inv a c r
+        ∙ ap (λ (o : Option ℕ). begin o (u .key) (power-up-draft (u .key) (a .nonce) c) (resuming-job u s (power-up-draft (u .key) (a .nonce) c)) (a .staging) (a .state) (c .secret)) stop-none
+
+    resumes-entry : Resumes u s (power-call u a) c
+    unfolding drafted power-up-draft
+    resumes-entry = record {
+      begins = ap (λ (b : Begin). b .answer) power-up-begins;
+      length-answered = ap (λ (b : Begin). b .secret-length) power-up-begins;
+      restored = ap (λ (b : Begin). b .state) power-up-begins;
+      runs = runs-on u new stores t (record { job = resuming-job u s new; staging = put (a .staging) 0 (sealed (u .key) new) }) holds (ap (λ (y : State). y .handed) is) draft;
+      ends = λ events k n. let x = ends u new events t holds stores draft (λ q. no-end q) (answers u events t) (answering u events t k) n in (answers-end stores (answers u events t) (y .0) (y .1) (y .2) (x .0) n, x .1);
+    }
+      where
+        new : Checkpoint
+        new = power-up-draft (u .key) (a .nonce) c
+
+        t : State
+        t = step u s (powered-up (power-call u a))
+
+        stores : List Store
+        stores = stores-of (u .key) (u .sizes .slots) (s .journal) new
+
+        is : t ≡ started u s new PowerUp (s .journal .power-ups + 1) (resuming-job u s new) (a .staging)
+        is = step-is u s inv a c r stop-none
+
+        holds : Holds u t
+        holds = subst (λ (y : State). Holds u y) (sym is) (resuming-holds u s inv a c r (l .nonce-long) (l .staging) (l .nonce-new) few)
+
+        draft : t .journal .draft ≡ some (record { checkpoint = new; origin = PowerUp; power-ups = new .restarts; stores = stores })
+        draft = ap (λ (y : State). y .journal .draft) is ∙ (λ i. some (record { checkpoint = new; origin = PowerUp; power-ups = r .restarts-are i + 1; stores = stores }))
+
+        y : (x : Store) × (rest : List Store) × (stores ≡ x ∷ rest)
+        y = stores-some (u .key) (u .sizes .slots) (s .journal) new
+
+        no-end : stores ≡ [] → Ended u t new
+        no-end q = absurd (let k = ap (λ (z : List Store). length z) (y .2) in let k′ = ap (λ (z : List Store). length z) q in omega arith)
+
+    outcome-resumes : Outcome u s (power-call u a)
+    outcome-resumes =
+        let e = ap (λ (b : Begin). b .answer) power-up-begins in
+        let p = r .entry-is in
+        record {
+          nothing = (λ q. absurd (let z : _≡_ {A = ℕ} 0 1 = cc in omega arith), λ q. absurd (let z : _≡_ {A = ℕ} 0 1 = cc in omega arith));
+          worn = (λ q. absurd (let z : _≡_ {A = ℕ} 0 1 = cc in omega arith), λ q. absurd (few (sym (r .restarts-are) ∙ q)));
+          resumes = λ c′ q f. let z : c ≡ c′ = cc in subst (λ (y : Checkpoint). Resumes u s (power-call u a) y) z resumes-entry;
+        }
+
+  outcome : Outcome u s (power-call u a)
+  outcome = go (inv .durable)
+    where
+      cases : (c : Checkpoint) → Entry u s c → (b : Bool) → eqb (c .restarts) restart-limit ≡ b → Outcome u s (power-call u a)
+      cases c r true e = outcome-worn c r (eqb-true (c .restarts) restart-limit e)
+      cases c r false e = outcome-resumes c r (eqb-false (c .restarts) restart-limit e)
+
+      go : Durable-at u s (s .ring) (s .fram) (s .journal .owed) → Outcome u s (power-call u a)
+      go (inl x) = outcome-blank x
+      go (inr (c, r)) = cases c r (eqb (c .restarts) restart-limit) refl
+
+exactly-fresh : (u : Setup) (ring fram : List ℕ) → blank ring ≡ true → (events : List Event) → Allowed u (fresh ring fram) events
+    → (x y : Bool) → ring-wrong (u .sizes .pages) (u .sizes .slots) ring ≡ x → fram-wrong fram ≡ y → Exactly u (fresh ring fram) events
+unfolding fresh
+exactly-fresh u ring fram b events k false false p q = exactly u events (fresh ring fram) (hold-fresh u ring fram p q b) k
+exactly-fresh u ring fram b events k true y p q = exactly-unfit u events (fresh ring fram) (record { wrong = inl p; none-handed = refl }) k
+exactly-fresh u ring fram b events k false true p q = exactly-unfit u events (fresh ring fram) (record { wrong = inr q; none-handed = refl }) k
+
+pub recovery : Recovery
+unfolding Recovery
+recovery u ring fram b events k = (exactly-fresh u ring fram b events k (ring-wrong (u .sizes .pages) (u .sizes .slots) ring) (fram-wrong fram) refl refl, λ f. (seen u (run u (fresh ring fram) events) (hold-run u events (fresh ring fram) (hold-fresh u ring fram (f .ring-right) (f .fram-right) b) k) (f .key-right), after-list f))
+  where
+    after-list : Fits u ring fram → (a : PowersUp) → Last u (run u (fresh ring fram) events) a → Outcome u (run u (fresh ring fram) events) a
+    after-list f a l =
+        let s = run u (fresh ring fram) events in
+        let inv = hold-run u events (fresh ring fram) (hold-fresh u ring fram (f .ring-right) (f .fram-right) b) k in
+        let path : power-call u a ≡ a = λ i. record { sizes = sym (l .sizes) i; key = sym (l .key) i; nonce = a .nonce; staging = a .staging; state = a .state } in
+        subst (λ (y : PowersUp). Outcome u s y) path (outcome u s inv a (f .key-right) (subst (λ (y : PowersUp). Last u s y) (sym path) l))

@@ -1,0 +1,70 @@
+-- Memories that don't fit the unit's sizes: every call is refused, so that nothing is ever handed out.
+use Prim.Native.Nat.{ℕ}
+use mathlib.Core.Path.{_≡_, refl, sym, subst}
+use mathlib.Core.Bool.{Bool, true, false}
+use mathlib.Core.Logic.{_⊎_, inl, inr}
+use mathlib.Core.Option.{Option, none, some}
+use mathlib.Core.List.{List, _∷_}
+use native.Mathlib.Omega.{arith}
+use lib.Dec.{T}
+use Rattle.stops.specs.Stops.{first-of}
+use Rattle.ring.specs.Ring.{ring-wrong}
+use Rattle.checkpoint.specs.Checkpoint.{Checkpoint}
+use Rattle.checkpoint.specs.Fram.{fram-wrong}
+use Rattle.protocol.specs.Types.{Job}
+use Rattle.protocol.specs.Calls.{Sizes, Setup, Event, first-saved, saved, powered-up, advanced-by, PowerLoss, lost-in-store}
+use Rattle.protocol.specs.Operations.{begin, first-save-stop, first-save, save-stop, save, power-up-stop, power-up}
+use Rattle.protocol.specs.History.{State, Handed, left-by, step, is-stop, refused, Keeps}
+use Rattle.protocol.specs.Recovery.{Told}
+use Rattle.protocol.proofs.Facts.{no-fact}
+use Rattle.protocol.proofs.Refused.{step-refused}
+
+abbrev Wrong : Sizes → List ℕ → List ℕ → Type 0
+Wrong z ring fram = (ring-wrong (z .pages) (z .slots) ring ≡ true) ⊎ (fram-wrong fram ≡ true)
+
+pub record Unfit (u : Setup) (s : State) : Type 0 where
+  pub wrong : (ring-wrong (u .sizes .pages) (u .sizes .slots) (s .ring) ≡ true) ⊎ (fram-wrong (s .fram) ≡ true)
+  pub none-handed : s .handed ≡ none
+
+two-stop : (a b : Bool) (more : List (ℕ × Bool)) → (a ≡ true) ⊎ (b ≡ true) → (x : ℕ) × (first-of ((1, a) ∷ (2, b) ∷ more) ≡ some x)
+unfolding first-of
+two-stop true b more w = (1, refl)
+two-stop false b more (inl e) = no-fact (sym e)
+two-stop false b more (inr e) = (2, rw e)
+
+begin-stops : (o : Option ℕ) (key : List ℕ) (c : Checkpoint) (job : Job) (staging state secret : List ℕ) → (x : ℕ) × (o ≡ some x) → T (is-stop (begin o key c job staging state secret .answer))
+unfolding begin is-stop
+begin-stops o key c job staging state secret (x, e) = rw e tt
+
+not-handed : {A : Type 0} (o : Option Handed) (h : Handed) → o ≡ none → o ≡ some h → A
+not-handed o h e f = absurd (let z : _≡_ {A = ℕ} 0 1 = cc in omega arith)
+
+module _ (u : Setup) (s : State) (x : Unfit u s) where
+  at-sizes : (z : Sizes) → z ≡ u .sizes → Wrong z (s .ring) (s .fram)
+  at-sizes z p = subst (λ (y : Sizes). Wrong y (s .ring) (s .fram)) (sym p) (x .wrong)
+
+  stays : (e : Event) → T (refused s e) → Unfit u (step u s e)
+  stays e t = rw (step-refused u s e t) x
+
+  unfit-keeps : (e : Event) → Keeps u s e → Unfit u (step u s e)
+  unfolding Keeps refused first-save save power-up first-save-stop save-stop power-up-stop step left-by
+  unfit-keeps (first-saved a) (p, q, f) = stays (first-saved a) (begin-stops _ _ _ _ _ _ _ (two-stop _ _ _ (at-sizes (a .arguments .sizes) p)))
+  unfit-keeps (saved a) (p, q, f, m) = stays (saved a) (begin-stops _ _ _ _ _ _ _ (two-stop _ _ _ (at-sizes (a .arguments .sizes) p)))
+  unfit-keeps (powered-up a) (p, q, f) = stays (powered-up a) (begin-stops _ _ _ _ _ _ _ (two-stop _ _ _ (at-sizes (a .sizes) p)))
+  unfit-keeps (advanced-by a) (p, e) = not-handed (s .handed) _ (x .none-handed) e
+  unfit-keeps PowerLoss k = record { wrong = x .wrong; none-handed = refl }
+  unfit-keeps (lost-in-store left) (h, e, l) = not-handed (s .handed) h (x .none-handed) e
+
+  pub unfit-step : (e : Event) → T (refused s e) ⊎ Keeps u s e → Unfit u (step u s e)
+  unfit-step e (inl t) = stays e t
+  unfit-step e (inr k) = unfit-keeps e k
+
+  pub unfit-told : (e : Event) → T (refused s e) ⊎ Keeps u s e → Told u s e
+  unfolding Told Keeps
+  unfit-told (first-saved a) k = tt
+  unfit-told (saved a) k = tt
+  unfit-told (powered-up a) k = tt
+  unfit-told (advanced-by a) (inl t) = inl t
+  unfit-told (advanced-by a) (inr (p, e)) = not-handed (s .handed) _ (x .none-handed) e
+  unfit-told PowerLoss k = tt
+  unfit-told (lost-in-store left) k = tt

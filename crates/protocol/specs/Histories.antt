@@ -1,0 +1,83 @@
+-- The theorem's premises can be met: every unit has lists that record as many checkpoints as one likes, and up to eight power-ups in a row.
+use Prim.Native.Nat.{ℕ, zero, suc, _+_, _/_, _%_, _^_, _≤_, _<_}
+use mathlib.Core.Path.{_≡_}
+use mathlib.Core.Bool.{true}
+use mathlib.Core.Option.{Option, none, some}
+use mathlib.Core.List.{List, [], _∷_, _++_}
+use lib.ListN.{length, replicate}
+use Rattle.octets.specs.Limits.{fram-limit, part-limit, restart-limit, nonce-length, tag-length}
+use Rattle.octets.specs.Octets.{blank, bytes}
+use Rattle.ring.specs.Ring.{At, read-ring}
+use Rattle.protocol.specs.Types.{Session}
+use Rattle.protocol.specs.Calls.{SaveArguments, FirstSave, Saves, PowersUp, Setup, Event, first-saved, saved, powered-up}
+use Rattle.protocol.specs.Journal.{Draft}
+use Rattle.protocol.specs.History.{State, fresh, step, run, Allowed}
+use Rattle.protocol.specs.Recovery.{advances-of, Fits}
+
+-- ---- a start run to its end
+
+unfoldable pub stores-left : Option Draft → ℕ
+stores-left none = 0
+stores-left (some d) = length (d .stores)
+
+-- a start, and then one advance for each store to come
+unfoldable pub to-its-end : Setup → State → Event → List Event
+to-its-end u s e = let t = step u s e in e ∷ advances-of u (stores-left (t .journal .draft)) t
+
+-- ---- starts with empty parts and numbered nonces
+
+-- a staging buffer for any FRAM, and a state buffer
+unfoldable pub staging-room : List ℕ
+staging-room = replicate (fram-limit / 2) 0
+
+unfoldable pub state-room : List ℕ
+state-room = replicate part-limit 0
+
+abbrev pub numbered-arguments : Setup → ℕ → SaveArguments
+numbered-arguments u i = record { sizes = u .sizes; key = u .key; nonce = bytes nonce-length i; open-part = []; secret = []; staging = staging-room }
+
+abbrev pub numbered-first : Setup → ℕ → FirstSave
+numbered-first u i = record { arguments = numbered-arguments u i; starting-tag = replicate tag-length 0 }
+
+abbrev pub numbered-save : Setup → ℕ → Session → Saves
+numbered-save u i z = record { arguments = numbered-arguments u i; session = z }
+
+abbrev pub numbered-power-up : Setup → ℕ → PowersUp
+numbered-power-up u i = record { sizes = u .sizes; key = u .key; nonce = bytes nonce-length i; staging = staging-room; state = state-room }
+
+-- ---- lists of them
+
+unfoldable pub with-session : List Session → (Session → List Event) → List Event
+with-session [] f = []
+with-session (z ∷ earlier) f = f z
+
+-- n saves, each with the session handed out last, numbered from i on
+unfoldable pub saves-on : Setup → ℕ → ℕ → State → List Event
+saves-on u i zero s = []
+saves-on u i (suc n) s = with-session (s .sessions) (λ z.
+    let events = to-its-end u s (saved (numbered-save u i z)) in events ++ saves-on u (suc i) n (run u s events))
+
+-- n power-ups, numbered from i on
+unfoldable pub power-ups-on : Setup → ℕ → ℕ → State → List Event
+power-ups-on u i zero s = []
+power-ups-on u i (suc n) s =
+    let events = to-its-end u s (powered-up (numbered-power-up u i)) in events ++ power-ups-on u (suc i) n (run u s events)
+
+-- a first save, then n saves, then k power-ups
+unfoldable pub history : Setup → State → ℕ → ℕ → List Event
+history u s n k =
+    let first = to-its-end u s (first-saved (numbered-first u 0)) in
+    let saves = saves-on u 1 n (run u s first) in
+    first ++ (saves ++ power-ups-on u (n + 1) k (run u (run u s first) saves))
+
+-- the list is allowed, and after it the newest record is the (n + k + 1)-th, in its place on the ring, and k power-ups are recorded in a row
+pub record Reached (u : Setup) (s : State) (events : List Event) (n k : ℕ) : Type 0 where
+  pub allowed : Allowed u s events
+  pub count : run u s events .journal .count ≡ n + k + 1
+  pub power-ups : run u s events .journal .power-ups ≡ k
+  pub newest : read-ring (run u s events .ring) (u .sizes .pages) (u .sizes .slots) ≡ At ((n + k) / u .sizes .slots % u .sizes .pages) ((n + k) % u .sizes .slots)
+
+unfoldable pub Reachable : Type 0
+Reachable =
+    (u : Setup) (ring fram : List ℕ) → blank ring ≡ true → Fits u ring fram
+    → (n k : ℕ) → k ≤ restart-limit → n + k + 1 < 2 ^ 96 → Reached u (fresh ring fram) (history u (fresh ring fram) n k) n k

@@ -1,0 +1,198 @@
+-- Lists of calls and power losses (document 01, "Runs, cuts and the book"), what they leave in the memories, and the rules that document 01 sets for a list.
+use Prim.Native.Nat.{ℕ, _+_, _*_}
+use mathlib.Core.Path.{_≡_}
+use mathlib.Core.Logic.{_⊎_}
+use mathlib.Core.Bool.{Bool, true, false}
+use mathlib.Core.Option.{Option, none, some}
+use mathlib.Core.List.{List, [], _∷_}
+use mathlib.Core.List.{List·Memᴰ}
+use lib.ListN.{length}
+use lib.Dec.{T}
+use Rattle.protocol.specs.Calls.{Setup, Event, first-saved, saved, powered-up, advanced-by, PowerLoss, lost-in-store}
+use Rattle.protocol.specs.Journal.{entered}
+use Rattle.octets.specs.Limits.{slot-length}
+use Rattle.octets.specs.Octets.{part, put, erased}
+use Rattle.protocol.specs.Journal.{Journal, empty}
+use Rattle.ring.specs.Ring.{page-put, record-put}
+use Rattle.checkpoint.specs.Fram.{half-length}
+use Rattle.protocol.specs.Operations.{Begin, Moved, first-save, save, power-up, advance, job-record}
+use Rattle.protocol.specs.Types.{Phase, EraseFirst, Words, Record, EraseAfter, Done, Job, Session, Progress, GoingOn, Saved, Restored, Refused, Start, Begun, Stopped}
+
+-- a job that was handed out, with its start's staging buffer
+pub record Handed : Type 0 where
+  pub job : Job
+  pub staging : List ℕ
+
+pub record State : Type 0 where
+  pub ring : List ℕ
+  pub fram : List ℕ
+  pub handed : Option Handed
+  pub sessions : List Session
+  pub nonces : List (List ℕ)
+  pub journal : Journal
+
+-- the memories as they were given, with nothing handed out
+unfoldable pub fresh : List ℕ → List ℕ → State
+fresh ring fram = record { ring = ring; fram = fram; handed = none; sessions = []; nonces = []; journal = empty }
+
+-- ---- whether a call stops
+
+unfoldable pub is-stop : Start → Bool
+is-stop Begun = false
+is-stop (Stopped stop) = true
+
+unfoldable pub is-stopped : Progress → Bool
+is-stopped GoingOn = false
+is-stopped Saved = false
+is-stopped Restored = false
+is-stopped (Refused stop) = true
+
+-- the call stops
+unfoldable pub refused : State → Event → Bool
+refused s (first-saved a) = is-stop (first-save (s .ring) (s .fram) a .answer)
+refused s (saved a) = is-stop (save (s .ring) (s .fram) a .answer)
+refused s (powered-up a) = is-stop (power-up (s .ring) (s .fram) a .answer)
+refused s (advanced-by a) = is-stopped (advance (s .ring) (s .fram) a .progress)
+refused s PowerLoss = false
+refused s (lost-in-store left) = false
+
+-- ---- what an event leaves, with the journal after it
+
+unfoldable pub begun : State → Start → Begin → List ℕ → Journal → State
+begun s Begun b nonce j = record {
+  ring = s .ring;
+  fram = s .fram;
+  handed = some (record { job = b .job; staging = b .staging });
+  sessions = s .sessions;
+  nonces = nonce ∷ s .nonces;
+  journal = j;
+}
+begun s (Stopped stop) b nonce j = record {
+  ring = s .ring;
+  fram = s .fram;
+  handed = s .handed;
+  sessions = s .sessions;
+  nonces = s .nonces;
+  journal = j;
+}
+
+unfoldable pub moved : State → Progress → Moved → List ℕ → Journal → State
+moved s GoingOn m staging j = record {
+  ring = m .ring;
+  fram = m .fram;
+  handed = some (record { job = m .job; staging = staging });
+  sessions = s .sessions;
+  nonces = s .nonces;
+  journal = j;
+}
+moved s Saved m staging j = record {
+  ring = m .ring;
+  fram = m .fram;
+  handed = some (record { job = m .job; staging = staging });
+  sessions = m .session ∷ s .sessions;
+  nonces = s .nonces;
+  journal = j;
+}
+moved s Restored m staging j = record {
+  ring = m .ring;
+  fram = m .fram;
+  handed = some (record { job = m .job; staging = staging });
+  sessions = m .session ∷ s .sessions;
+  nonces = s .nonces;
+  journal = j;
+}
+moved s (Refused stop) m staging j = record {
+  ring = m .ring;
+  fram = m .fram;
+  handed = s .handed;
+  sessions = s .sessions;
+  nonces = s .nonces;
+  journal = j;
+}
+
+-- the store of a job's phase, with `left` in the place of what it would have written
+unfoldable pub broken-ring : Phase → List ℕ → ℕ → Job → List ℕ → List ℕ
+broken-ring (EraseFirst p) ring slots j left = page-put ring slots p left
+broken-ring (Words w) ring slots j left = ring
+broken-ring Record ring slots j left = record-put ring slots (j .page) (j .slot) left
+broken-ring (EraseAfter p) ring slots j left = page-put ring slots p left
+broken-ring Done ring slots j left = ring
+
+unfoldable pub broken-fram : Phase → List ℕ → Job → List ℕ → List ℕ
+broken-fram (EraseFirst p) fram j left = fram
+broken-fram (Words w) fram j left = put fram (j .half * half-length fram + 4 * w) left
+broken-fram Record fram j left = fram
+broken-fram (EraseAfter p) fram j left = fram
+broken-fram Done fram j left = fram
+
+-- the bytes that the store of a job's phase writes
+unfoldable pub bytes-of : Phase → Job → ℕ → List ℕ → List ℕ
+bytes-of (EraseFirst p) j slots staging = erased (slot-length * slots)
+bytes-of (Words w) j slots staging = part staging (4 * w) 4
+bytes-of Record j slots staging = job-record j
+bytes-of (EraseAfter p) j slots staging = erased (slot-length * slots)
+bytes-of Done j slots staging = []
+
+unfoldable pub broken : Setup → State → Option Handed → List ℕ → Journal → State
+broken u s none left j = record {
+  ring = s .ring;
+  fram = s .fram;
+  handed = none;
+  sessions = s .sessions;
+  nonces = s .nonces;
+  journal = j;
+}
+broken u s (some h) left j = record {
+  ring = broken-ring (h .job .phase) (s .ring) (u .sizes .slots) (h .job) left;
+  fram = broken-fram (h .job .phase) (s .fram) (h .job) left;
+  handed = none;
+  sessions = s .sessions;
+  nonces = s .nonces;
+  journal = j;
+}
+
+unfoldable pub left-by : Setup → State → Event → Journal → State
+left-by u s (first-saved a) j = let b = first-save (s .ring) (s .fram) a in begun s (b .answer) b (a .arguments .nonce) j
+left-by u s (saved a) j = let b = save (s .ring) (s .fram) a in begun s (b .answer) b (a .arguments .nonce) j
+left-by u s (powered-up a) j = let b = power-up (s .ring) (s .fram) a in begun s (b .answer) b (a .nonce) j
+left-by u s (advanced-by a) j = let m = advance (s .ring) (s .fram) a in moved s (m .progress) m (a .staging) j
+left-by u s PowerLoss j = record {
+  ring = s .ring;
+  fram = s .fram;
+  handed = none;
+  sessions = s .sessions;
+  nonces = s .nonces;
+  journal = j;
+}
+left-by u s (lost-in-store left) j = broken u s (s .handed) left j
+
+-- the journal changes by `entered` alone
+unfoldable pub step : Setup → State → Event → State
+step u s e = left-by u s e (entered u (s .journal) e (refused s e))
+
+unfoldable pub run : Setup → State → List Event → State
+run u s [] = s
+run u s (e ∷ more) = run u (step u s e) more
+
+-- ---- the rules of a list
+
+-- what the store interrupted by a power loss may hold: a word or a page any bytes, a slot the whole record or still blank
+unfoldable pub Left : Phase → Job → ℕ → List ℕ → Type 0
+Left (EraseFirst p) j slots left = length left ≡ slot-length * slots
+Left (Words w) j slots left = length left ≡ 4
+Left Record j slots left = (left ≡ job-record j) ⊎ (left ≡ erased slot-length)
+Left (EraseAfter p) j slots left = length left ≡ slot-length * slots
+Left Done j slots left = ⊥
+
+-- a call that does not stop, and a power loss, keep document 01's rules
+unfoldable pub Keeps : Setup → State → Event → Type 0
+Keeps u s (first-saved a) = (a .arguments .sizes ≡ u .sizes) × (a .arguments .key ≡ u .key) × (List·Memᴰ (a .arguments .nonce) (s .nonces) → ⊥)
+Keeps u s (saved a) = (a .arguments .sizes ≡ u .sizes) × (a .arguments .key ≡ u .key) × (List·Memᴰ (a .arguments .nonce) (s .nonces) → ⊥) × (List·Memᴰ (a .session) (s .sessions))
+Keeps u s (powered-up a) = (a .sizes ≡ u .sizes) × (a .key ≡ u .key) × (List·Memᴰ (a .nonce) (s .nonces) → ⊥)
+Keeps u s (advanced-by a) = (a .sizes ≡ u .sizes) × (s .handed ≡ some (record { job = a .job; staging = a .staging }))
+Keeps u s PowerLoss = Unit {0}
+Keeps u s (lost-in-store left) = (h : Handed) × (s .handed ≡ some h) × Left (h .job .phase) (h .job) (u .sizes .slots) left
+
+unfoldable pub Allowed : Setup → State → List Event → Type 0
+Allowed u s [] = Unit {0}
+Allowed u s (e ∷ more) = ((T (refused s e)) ⊎ Keeps u s e) × Allowed u (step u s e) more

@@ -1,0 +1,134 @@
+-- The reference that the theorem compares with (document 01 calls it the book). It never sees the memories: `entered` is its only way to change.
+use Prim.Native.Nat.{ℕ, _+_, _/_, _%_}
+use mathlib.Core.Bool.{Bool, true, false, not, cond, _&&_}
+use mathlib.Core.Option.{Option, none, some}
+use mathlib.Core.List.{List, [], _∷_, _++_}
+use lib.ListN.{length, replicate}
+use lib.Dec.{eqb, ltb}
+use Rattle.protocol.specs.Calls.{Saves, Setup, Event, first-saved, saved, powered-up, advanced-by, PowerLoss, lost-in-store}
+use Rattle.octets.specs.Octets.{blank}
+use Rattle.checkpoint.specs.Checkpoint.{Checkpoint, sealed, own-tag}
+use Rattle.protocol.specs.Types.{Origin, Save, PowerUp}
+
+pub data Store : Type 0 where
+  erase : Store
+  word : Store
+  record-slot : Store
+
+pub record Draft : Type 0 where
+  pub checkpoint : Checkpoint
+  pub origin : Origin
+  -- the journal's power-ups once it is recorded: fixed when it is drafted
+  pub power-ups : ℕ
+  pub stores : List Store
+
+pub record Journal : Type 0 where
+  pub entry : Option Checkpoint
+  pub count : ℕ
+  pub owed : Bool
+  pub draft : Option Draft
+  -- power-ups recorded since the last recorded first save or save
+  pub power-ups : ℕ
+
+-- ---- the checkpoints of drafts, from document 01's words and not from the operations
+
+unfoldable pub first-draft : List ℕ → List ℕ → List ℕ → List ℕ → Checkpoint
+first-draft nonce starting-tag open-part secret = record { open-part = open-part; secret = secret; restarts = 0; previous = starting-tag; nonce = nonce }
+
+-- a save's, with the entry c
+unfoldable pub save-draft : List ℕ → List ℕ → List ℕ → List ℕ → Checkpoint → Checkpoint
+save-draft key nonce open-part secret c = record { open-part = open-part; secret = secret; restarts = 0; previous = own-tag key c; nonce = nonce }
+
+-- a power-up's, with the entry c
+unfoldable pub power-up-draft : List ℕ → List ℕ → Checkpoint → Checkpoint
+power-up-draft key nonce c = record { open-part = c .open-part; secret = c .secret; restarts = c .restarts + 1; previous = own-tag key c; nonce = nonce }
+
+-- ---- the journal
+
+unfoldable pub empty : Journal
+empty = record { entry = none; count = 0; owed = false; draft = none; power-ups = 0 }
+
+unfoldable pub erase-if : Bool → List Store
+erase-if true = erase ∷ []
+erase-if false = []
+
+unfoldable pub stores-of : List ℕ → ℕ → Journal → Checkpoint → List Store
+stores-of key slots j c =
+    erase-if (j .owed) ++ replicate (length (sealed key c) / 4) word ++ record-slot ∷ erase-if (ltb 0 (j .count) && eqb (j .count % slots) 0)
+
+-- `power-ups` is what the draft makes the journal's once it is recorded: 0 for a save, one more for a power-up
+unfoldable pub drafted : List ℕ → ℕ → Origin → Checkpoint → ℕ → Journal → Journal
+drafted key slots origin c power-ups j = record {
+  entry = j .entry;
+  count = j .count;
+  owed = j .owed;
+  power-ups = j .power-ups;
+  draft = some (record { checkpoint = c; origin = origin; power-ups = power-ups; stores = stores-of key slots j c });
+}
+
+unfoldable pub dropped : Journal → Journal
+dropped j = record { entry = j .entry; count = j .count; owed = j .owed; power-ups = j .power-ups; draft = none }
+
+unfoldable pub to-come : List Store → Bool
+to-come [] = false
+to-come (s ∷ more) = true
+
+-- the first store is made
+unfoldable pub made : Journal → Draft → List Store → Journal
+made j d [] = j
+made j d (erase ∷ rest) = record {
+  entry = j .entry;
+  count = j .count;
+  owed = false;
+  power-ups = j .power-ups;
+  draft = some (record { checkpoint = d .checkpoint; origin = d .origin; power-ups = d .power-ups; stores = rest });
+}
+made j d (word ∷ rest) = record {
+  entry = j .entry;
+  count = j .count;
+  owed = j .owed;
+  power-ups = j .power-ups;
+  draft = some (record { checkpoint = d .checkpoint; origin = d .origin; power-ups = d .power-ups; stores = rest });
+}
+made j d (record-slot ∷ rest) = record {
+  entry = some (d .checkpoint);
+  count = j .count + 1;
+  owed = to-come rest;
+  power-ups = d .power-ups;
+  draft = some (record { checkpoint = d .checkpoint; origin = d .origin; power-ups = d .power-ups; stores = rest });
+}
+
+unfoldable pub advanced : Journal → Option Draft → Journal
+advanced j none = j
+advanced j (some d) = made j d (d .stores)
+
+-- a power loss that left the store whole counts as that store
+unfoldable pub whole : List Store → List ℕ → Bool
+whole [] left = false
+whole (erase ∷ rest) left = blank left
+whole (word ∷ rest) left = false
+whole (record-slot ∷ rest) left = not (blank left)
+
+unfoldable pub lost-into : Journal → Option Draft → List ℕ → Journal
+lost-into j none left = dropped j
+lost-into j (some d) left = dropped (cond (whole (d .stores) left) (made j d (d .stores)) j)
+
+-- ---- what the journal sees of an event
+
+unfoldable pub resumed-entry : List ℕ → List ℕ → Option Checkpoint → Journal → ℕ → Journal
+resumed-entry key nonce none j slots = j
+resumed-entry key nonce (some c) j slots = drafted key slots PowerUp (power-up-draft key nonce c) (j .power-ups + 1) j
+
+-- a save's draft carries the entry's tag, whatever session it was given
+unfoldable pub saved-entry : List ℕ → Saves → Option Checkpoint → Journal → ℕ → Journal
+saved-entry key a none j slots = j
+saved-entry key a (some c) j slots = drafted key slots Save (save-draft key (a .arguments .nonce) (a .arguments .open-part) (a .arguments .secret) c) 0 j
+
+-- the journal after an event: it sees the call's arguments and whether the call stopped, and what a power loss left; never the memories
+unfoldable pub entered : Setup → Journal → Event → Bool → Journal
+entered u j (first-saved a) stopped = cond stopped j (drafted (u .key) (u .sizes .slots) Save (first-draft (a .arguments .nonce) (a .starting-tag) (a .arguments .open-part) (a .arguments .secret)) 0 j)
+entered u j (saved a) stopped = cond stopped j (saved-entry (u .key) a (j .entry) j (u .sizes .slots))
+entered u j (powered-up a) stopped = cond stopped j (resumed-entry (u .key) (a .nonce) (j .entry) j (u .sizes .slots))
+entered u j (advanced-by a) stopped = cond stopped j (advanced j (j .draft))
+entered u j PowerLoss stopped = dropped j
+entered u j (lost-in-store left) stopped = lost-into j (j .draft) left

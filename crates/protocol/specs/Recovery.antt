@@ -1,0 +1,181 @@
+-- The theorem Recovery (document 01: demand 3, the cut rule): what every call of a list of calls and power losses answers and leaves, and what a power-up finds after it.
+use Prim.Native.Nat.{ℕ, zero, suc, _-_, _≤_}
+use mathlib.Core.Path.{_≡_}
+use mathlib.Core.Bool.{Bool, true, false, cond}
+use mathlib.Core.Option.{Option, none, some}
+use mathlib.Core.List.{List, [], _∷_, _++_}
+use mathlib.Core.List.{List·Memᴰ}
+use mathlib.Core.Logic.{_↔_, _⊎_}
+use lib.ListN.{length, replicate, take}
+use lib.Dec.{T}
+use Rattle.protocol.specs.Calls.{PowersUp, Looks, Advances, Setup, Event, first-saved, saved, powered-up, advanced-by, PowerLoss, lost-in-store}
+use Rattle.octets.specs.Limits.{part-limit, restart-limit, key-length, nonce-length}
+use Rattle.octets.specs.Octets.{put, blank}
+use Rattle.ring.specs.Ring.{At, ring-wrong, slot-at, half-named, read-ring}
+use Rattle.checkpoint.specs.Fram.{fram-wrong, half-length, half-at}
+use Rattle.checkpoint.specs.Checkpoint.{Checkpoint, own-tag, sealed}
+use Rattle.protocol.specs.Journal.{Draft, to-come, power-up-draft, stores-of}
+use Rattle.protocol.specs.Types.{Restarts, Unseen, Session, Origin, Save, PowerUp, Progress, GoingOn, Restored, Saved, Refused, Start, Begun, Stopped}
+use Rattle.protocol.specs.Operations.{Begin, no-job, first-save-stop, first-save, save-stop, save, power-up-stop, power-up, look, open-stretch, stretch-of, advance-stop, advance, no-session, session-of}
+use Rattle.protocol.specs.History.{State, Handed, broken-ring, broken-fram, bytes-of, fresh, run, step, is-stop, is-stopped, refused, Keeps, Allowed}
+
+-- ---- each call of a list
+
+unfoldable pub start-answer : Option ℕ → Start
+start-answer none = Begun
+start-answer (some x) = Stopped x
+
+-- an advance leaves its phase's store whole, and all else as it was: what a power loss in it would leave, with the whole store in its place
+pub record One-store (s : State) (a : Advances) : Type 0 where
+  pub ring : advance (s .ring) (s .fram) a .ring ≡ broken-ring (a .job .phase) (s .ring) (a .sizes .slots) (a .job) (bytes-of (a .job .phase) (a .job) (a .sizes .slots) (a .staging))
+  pub fram : advance (s .ring) (s .fram) a .fram ≡ broken-fram (a .job .phase) (s .fram) (a .job) (bytes-of (a .job .phase) (a .job) (a .sizes .slots) (a .staging))
+
+unfoldable pub is-going : Progress → Bool
+is-going GoingOn = true
+is-going Saved = false
+is-going Restored = false
+is-going (Refused stop) = false
+
+-- a start answers `stop`, if that is one, with no job, and then leaves staging and state as they were
+abbrev pub Started : Option ℕ → Begin → List ℕ → List ℕ → Type 0
+Started stop b staging state =
+    (b .answer ≡ start-answer stop)
+    × (T (is-stop (b .answer)) → (b .job ≡ no-job) × (b .secret-length ≡ 0) × (b .staging ≡ staging) × (b .state ≡ state))
+
+-- the call answers the first stop of document 01's table that applies, and then leaves every lent buffer and the job; else it does not stop, and an advance makes one store
+unfoldable pub Exact : State → Event → Type 0
+Exact s (first-saved a) = Started (first-save-stop (s .ring) (s .fram) a) (first-save (s .ring) (s .fram) a) (a .arguments .staging) []
+Exact s (saved a) = Started (save-stop (s .ring) (s .fram) a) (save (s .ring) (s .fram) a) (a .arguments .staging) []
+Exact s (powered-up a) = Started (power-up-stop (s .ring) (s .fram) a) (power-up (s .ring) (s .fram) a) (a .staging) (a .state)
+Exact s (advanced-by a) =
+    let m = advance (s .ring) (s .fram) a in
+    ((x : ℕ) → advance-stop (s .ring) (s .fram) a ≡ some x → (m .progress ≡ Refused x) × (m .ring ≡ s .ring) × (m .fram ≡ s .fram) × (m .job ≡ a .job) × (m .session ≡ no-session))
+    × (advance-stop (s .ring) (s .fram) a ≡ none → (is-stopped (m .progress) ≡ false) × (m .session ≡ cond (is-going (m .progress)) no-session (session-of (a .job))) × One-store s a)
+Exact s PowerLoss = Unit {0}
+Exact s (lost-in-store left) = Unit {0}
+
+-- what the draft that an advance leaves makes it say: 'going on' while a store is to come, then 'saved' or 'restored'
+unfoldable pub ending : Origin → Progress
+ending Save = Saved
+ending PowerUp = Restored
+
+unfoldable pub said : Option Draft → Progress
+said none = GoingOn
+said (some d) = cond (to-come (d .stores)) GoingOn (ending (d .origin))
+
+unfoldable pub Told : Setup → State → Event → Type 0
+Told u s (first-saved a) = Unit {0}
+Told u s (saved a) = Unit {0}
+Told u s (powered-up a) = Unit {0}
+Told u s (advanced-by a) = T (refused s (advanced-by a)) ⊎ (advance (s .ring) (s .fram) a .progress ≡ said (step u s (advanced-by a) .journal .draft))
+Told u s PowerLoss = Unit {0}
+Told u s (lost-in-store left) = Unit {0}
+
+unfoldable pub Exactly : Setup → State → List Event → Type 0
+Exactly u s [] = Unit {0}
+Exactly u s (e ∷ more) = Exact s e × Told u s e × Exactly u (step u s e) more
+
+-- ---- the last power-up
+
+-- a unit's sizes and key are ones that pass, and its memories fit them
+pub record Fits (u : Setup) (ring fram : List ℕ) : Type 0 where
+  pub ring-right : ring-wrong (u .sizes .pages) (u .sizes .slots) ring ≡ false
+  pub fram-right : fram-wrong fram ≡ false
+  pub key-right : length (u .key) ≡ key-length
+
+-- the last power-up: the unit's sizes and key, a nonce that no start had, and buffers that pass 1 to 4
+pub record Last (u : Setup) (s : State) (a : PowersUp) : Type 0 where
+  pub sizes : a .sizes ≡ u .sizes
+  pub key : a .key ≡ u .key
+  pub nonce-long : length (a .nonce) ≡ nonce-length
+  pub nonce-new : List·Memᴰ (a .nonce) (s .nonces) → ⊥
+  pub staging : half-length (s .fram) ≤ length (a .staging)
+  pub state : part-limit ≤ length (a .state)
+
+unfoldable pub is-advance : Event → Bool
+is-advance (first-saved a) = false
+is-advance (saved a) = false
+is-advance (powered-up a) = false
+is-advance (advanced-by a) = true
+is-advance PowerLoss = false
+is-advance (lost-in-store left) = false
+
+-- from state s the events are refused calls and advances of the job handed out last, and no power loss
+unfoldable pub Uninterrupted : Setup → State → List Event → Type 0
+Uninterrupted u s [] = Unit {0}
+Uninterrupted u s (e ∷ more) = (T (refused s e) ⊎ (T (is-advance e) × Keeps u s e)) × Uninterrupted u (step u s e) more
+
+-- what an advance answers, before what later ones answer
+unfoldable pub answered : State → Event → List Progress → List Progress
+answered s (first-saved a) later = later
+answered s (saved a) later = later
+answered s (powered-up a) later = later
+answered s (advanced-by a) later = advance (s .ring) (s .fram) a .progress ∷ later
+answered s PowerLoss later = later
+answered s (lost-in-store left) later = later
+
+-- what the advances among the events answer, without those that are refused
+unfoldable pub answers : Setup → List Event → State → List Progress
+answers u [] s = []
+answers u (e ∷ more) s = let later = answers u more (step u s e) in cond (refused s e) later (answered s e later)
+
+unfoldable pub with-handed : Option Handed → (Handed → List Event) → List Event
+with-handed none f = []
+with-handed (some h) f = f h
+
+-- n advances, each of the job handed out last
+unfoldable pub advances-of : Setup → ℕ → State → List Event
+advances-of u zero s = []
+advances-of u (suc n) s = with-handed (s .handed) (λ h.
+    let e = advanced-by (record { sizes = u .sizes; job = h .job; staging = h .staging }) in e ∷ advances-of u n (step u s e))
+
+-- in state t the checkpoint new is the journal's entry, the newest record has its nonce, the half which that record names begins with it, and the session handed out last is of that record
+pub record Stands (u : Setup) (t : State) (new : Checkpoint) : Type 0 where
+  pub entry : t .journal .entry ≡ some new
+  pub page : ℕ
+  pub slot : ℕ
+  pub readable : read-ring (t .ring) (u .sizes .pages) (u .sizes .slots) ≡ At page slot
+  pub nonce : take nonce-length (slot-at (t .ring) (u .sizes .slots) page slot) ≡ new .nonce
+  pub there : take (length (sealed (u .key) new)) (half-at (t .fram) (half-named (slot-at (t .ring) (u .sizes .slots) page slot))) ≡ sealed (u .key) new
+  pub earlier : List Session
+  pub session : t .sessions ≡ record { page = page; slot = slot; latest = slot-at (t .ring) (u .sizes .slots) page slot; tag = own-tag (u .key) new } ∷ earlier
+
+-- from state s the power-up a resumes the entry c
+pub record Resumes (u : Setup) (s : State) (a : PowersUp) (c : Checkpoint) : Type 0 where
+  pub begins : power-up (s .ring) (s .fram) a .answer ≡ Begun
+  pub length-answered : power-up (s .ring) (s .fram) a .secret-length ≡ length (c .secret)
+  pub restored : power-up (s .ring) (s .fram) a .state ≡ put (a .state) 0 (c .secret)
+  -- one advance for each store to come, with only refused calls between, runs it to its end, and every such run ends so
+  pub runs :
+      let t = step u s (powered-up a) in
+      let n = length (stores-of (u .key) (u .sizes .slots) (s .journal) (power-up-draft (u .key) (a .nonce) c)) in
+      Uninterrupted u t (advances-of u n t) × (length (answers u (advances-of u n t) t) ≡ n)
+  pub ends :
+      let t = step u s (powered-up a) in
+      let n = length (stores-of (u .key) (u .sizes .slots) (s .journal) (power-up-draft (u .key) (a .nonce) c)) in
+      (events : List Event) → Uninterrupted u t events → length (answers u events t) ≡ n
+      → (answers u events t ≡ replicate (n - 1) GoingOn ++ Restored ∷ []) × Stands u (run u t events) (power-up-draft (u .key) (a .nonce) c)
+
+pub record Outcome (u : Setup) (s : State) (a : PowersUp) : Type 0 where
+  pub nothing : (power-up (s .ring) (s .fram) a .answer ≡ Stopped 6) ↔ (s .journal .entry ≡ none)
+  pub worn : (power-up (s .ring) (s .fram) a .answer ≡ Stopped 13) ↔ (s .journal .power-ups ≡ restart-limit)
+  pub resumes : (c : Checkpoint) → s .journal .entry ≡ some c → (s .journal .power-ups ≡ restart-limit → ⊥) → Resumes u s a c
+
+-- ---- look and its companion after the list
+
+abbrev pub looks : Setup → Looks
+looks u = record { sizes = u .sizes; key = u .key }
+
+-- look gives 6 if nothing was recorded, else the entry's restarts, and its companion the entry's open part
+pub record Seen (u : Setup) (s : State) : Type 0 where
+  pub nothing : s .journal .entry ≡ none → look (s .ring) (s .fram) (looks u) ≡ Unseen 6
+  pub restarts : (c : Checkpoint) → s .journal .entry ≡ some c → look (s .ring) (s .fram) (looks u) ≡ Restarts (c .restarts)
+  pub open-part : (c : Checkpoint) → s .journal .entry ≡ some c → stretch-of (s .fram) (open-stretch (s .ring) (s .fram) (looks u)) ≡ c .open-part
+
+unfoldable pub Recovery : Type 0
+Recovery =
+    (u : Setup) (ring fram : List ℕ) → blank ring ≡ true
+    → (events : List Event) → Allowed u (fresh ring fram) events
+    → Exactly u (fresh ring fram) events
+    × (Fits u ring fram → Seen u (run u (fresh ring fram) events)
+    × ((a : PowersUp) → Last u (run u (fresh ring fram) events) a → Outcome u (run u (fresh ring fram) events) a))

@@ -1,0 +1,55 @@
+-- What the operations take and answer (document 01, "What the unit calls"). A stop is one of the numbers of its table.
+use Prim.Native.Nat.{ℕ}
+use mathlib.Core.List.{List}
+
+-- the next store of a job: the page to erase, or the number of the word to store
+pub data Phase : Type 0 where
+  EraseFirst : ℕ → Phase
+  Words : ℕ → Phase
+  Record : Phase
+  EraseAfter : ℕ → Phase
+  Done : Phase
+
+-- which start a job came from; a first save is a save
+pub data Origin : Type 0 where
+  Save : Origin
+  PowerUp : Origin
+
+-- half 0 is A and half 1 is B; page and slot are the target
+pub record Job : Type 0 where
+  pub phase : Phase
+  pub origin : Origin
+  pub half : ℕ
+  pub length : ℕ
+  pub page : ℕ
+  pub slot : ℕ
+  pub nonce : List ℕ
+  pub tag : List ℕ
+
+pub record Session : Type 0 where
+  pub page : ℕ
+  pub slot : ℕ
+  pub latest : List ℕ
+  pub tag : List ℕ
+
+-- what an advance answers
+pub data Progress : Type 0 where
+  GoingOn : Progress
+  Saved : Progress
+  Restored : Progress
+  Refused : ℕ → Progress
+
+-- what a start answers
+pub data Start : Type 0 where
+  Begun : Start
+  Stopped : ℕ → Start
+
+-- what look answers: the restarts of the newest checkpoint, or a stop
+pub data Looked : Type 0 where
+  Restarts : ℕ → Looked
+  Unseen : ℕ → Looked
+
+-- a stretch of a lent image
+pub record Stretch : Type 0 where
+  pub offset : ℕ
+  pub length : ℕ
