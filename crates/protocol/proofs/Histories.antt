@@ -23,13 +23,13 @@ use Rattle.checkpoint.specs.Checkpoint.{Checkpoint, part-wrong, sealed}
 use Rattle.checkpoint.proofs.FramLaws.{fram-sizes, two-halves}
 use Rattle.protocol.specs.Types.{Session, Save, PowerUp, Words}
 use Rattle.protocol.specs.Calls.{FirstSave, Saves, PowersUp, Setup, Event, first-saved, saved, powered-up}
-use Rattle.protocol.specs.Journal.{drafted, stores-of, power-up-draft, empty}
 use Rattle.protocol.specs.Operations.{key-wrong, nonce-wrong, staging-wrong, parts-wrong, stale, job-of, first-checkpoint, first-save-stop, save-checkpoint, save-stop}
+use Rattle.protocol.specs.Journal.{drafted, stores-of, power-up-draft, empty}
 use Rattle.protocol.specs.History.{State, fresh, run, Keeps, Allowed}
 use Rattle.protocol.specs.Recovery.{Fits, Last}
 use Rattle.protocol.specs.Histories.{to-its-end, staging-room, state-room, numbered-first, numbered-save, numbered-power-up, with-session, saves-on, power-ups-on, history, Reachable}
-use Rattle.protocol.proofs.Invariant.{half-of, session-in, Holds}
 use Rattle.protocol.proofs.Facts.{no-fact}
+use Rattle.protocol.proofs.Invariant.{half-of, session-in, Holds}
 use Rattle.protocol.proofs.Reading.{reads, record-found, new-nonce}
 use Rattle.protocol.proofs.FirstSaves.{first-begun, first-step}
 use Rattle.protocol.proofs.Saves.{saving-job, save-begun, save-step}

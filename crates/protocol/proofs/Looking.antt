@@ -26,8 +26,8 @@ use Rattle.protocol.specs.Operations.{newest-half, look-stop, look-by, l
 use Rattle.protocol.specs.History.{State}
 use Rattle.protocol.specs.Recovery.{looks, Seen}
 use Rattle.protocol.proofs.Invariant.{Durable-at, Holds}
-use Rattle.protocol.proofs.PowerUps.{Entry}
 use Rattle.protocol.proofs.Reading.{reads, head-found, tag-found, restarts-found, checkpoint-found, newest-half-is, behind}
+use Rattle.protocol.proofs.PowerUps.{Entry}
 
 part-part : (xs : List ℕ) (b n i m : ℕ) → i + m ≤ n → part xs (b + i) m ≡ part (part xs b n) i m
 unfolding part
