@@ -28,11 +28,15 @@ use Rattle.protocol.specs.Operations.{staging-wrong, session-of, in-phas
 use Rattle.protocol.specs.Journal.{entered, Journal, Draft, Store, erase, word, record-slot, made, advanced}
 use Rattle.protocol.specs.History.{State, Handed, moved, step, left-by, refused, is-stopped}
 use Rattle.protocol.proofs.Facts.{no-fact}
-use Rattle.protocol.proofs.Invariant.{length-good, sealed-fits, half-of, page-in, owed-page, Durable-at, Durable, Working, Before, last-erase, Stored, Erasing-first, Writing, Doing, Holds, answer-of, Moving}
+use Rattle.protocol.proofs.Invariant.{draft-of, length-good, sealed-fits, half-of, page-in, owed-page, Durable-at, Durable, Working, Before, last-erase, Stored, Erasing-first, Writing, Doing, Holds, answer-of, Moving}
 
 -- the call of an advance with the job handed out
 abbrev pub call : Setup → Handed → Advances
 call u h = record { sizes = u .sizes; job = h .job; staging = h .staging }
+
+-- what that advance leaves, and its answer: `rest` is to come of the draft of c
+abbrev pub Moves : Setup → State → Handed → Checkpoint → Origin → List Store → Type 0
+Moves u s h c origin rest = Moving u (step u s (advanced-by (call u h))) (advance (s .ring) (s .fram) (call u h) .progress) c origin rest
 
 module _ {u : Setup} {s : State} {h : Handed} {n : ℕ} {stores : List Store} (inv : Holds u s) (w : Working u s h n stores) where
   pub job-right : phase-wrong (h .job .phase) (h .job) (u .sizes) (s .ring) ≡ false → job-wrong (h .job) (u .sizes) (s .ring) (s .fram) ≡ false
@@ -91,7 +95,7 @@ module _ (u : Setup) (s : State) (h : Handed) (P : State → Progress → Type 0
 
 -- a job in its next phase
 unfoldable pub working-on : {u : Setup} {s : State} {h : Handed} {n : ℕ} {stores : List Store} (t : State) (rest : List Store) (p : Phase) (w : Working u s h n stores)
-    → t .journal .draft ≡ some (record { checkpoint = w .c; origin = w .origin; power-ups = w .c .restarts; stores = rest })
+    → t .journal .draft ≡ some (draft-of (w .c) (w .origin) rest)
     → half-length (t .fram) ≡ half-length (s .fram) → t .nonces ≡ s .nonces
     → Working u t (record { job = in-phase (h .job) p; staging = h .staging }) n rest
 unfolding in-phase
@@ -157,7 +161,7 @@ page-right u s p inv e =
 
 module _ (u : Setup) (s : State) (h : Handed) (inv : Holds u s) where
   pub erasing-first : (p : ℕ) → h .job .phase ≡ EraseFirst p → (x : Erasing-first u s h p)
-      → Moving u (step u s (advanced-by (call u h))) (advance (s .ring) (s .fram) (call u h) .progress)
+      → Moves u s h
       (x .before .working .c) (x .before .working .origin) (word ∷ (replicate (x .left) word ++ record-slot ∷ last-erase u s))
   unfolding in-phase advanced made store phase-wrong working-on
   erasing-first p e x =
@@ -193,7 +197,7 @@ module _ (u : Setup) (s : State) (h : Handed) (inv : Holds u s) where
         count = s .journal .count;
         owed = false;
         power-ups = s .journal .power-ups;
-        draft = some (record { checkpoint = w .c; origin = w .origin; power-ups = w .c .restarts; stores = rest });
+        draft = some (draft-of (w .c) (w .origin) rest);
       }
 
       moves : advance (s .ring) (s .fram) (call u h) ≡ going-on (h .job) (Words 0) ring (s .fram)
@@ -308,7 +312,7 @@ word-state s h w p c origin rest = after s h p (s .ring) (stored-word (s .fram) 
       count = s .journal .count;
       owed = s .journal .owed;
       power-ups = s .journal .power-ups;
-      draft = some (record { checkpoint = c; origin = origin; power-ups = c .restarts; stores = rest });
+      draft = some (draft-of c origin rest);
     })
 
 module _ {u : Setup} {s : State} {h : Handed} {rest : List Store} (inv : Holds u s) (w left : ℕ) (long : 4 * (w + suc left) ≡ h .job .length) (x : Before u s h (word ∷ rest)) where
@@ -346,7 +350,7 @@ module _ {u : Setup} {s : State} {h : Handed} {rest : List Store} (inv : Holds u
 
   word-moving : (p : Phase) → h .job .phase ≡ Words w → cond (eqb (4 * (w + 1)) (h .job .length)) Record (Words (w + 1)) ≡ p → (rest ≡ [] → ⊥)
       → Doing u (word-state s h w p (x .working .c) (x .working .origin) rest) (next-job h p) p
-      → Moving u (step u s (advanced-by (call u h))) (advance (s .ring) (s .fram) (call u h) .progress) (x .working .c) (x .working .origin) rest
+      → Moves u s h (x .working .c) (x .working .origin) rest
   unfolding in-phase advanced made store phase-wrong
   word-moving p e next more doing =
       after-going u s h (λ t a. Moving u t a (x .working .c) (x .working .origin) rest) p (s .ring) fram (t .journal) moves (ap (λ (d : Option Draft). advanced (s .journal) d) (x .working .draft-is))
@@ -383,7 +387,7 @@ module _ {u : Setup} {s : State} {h : Handed} {rest : List Store} (inv : Holds u
 module _ (u : Setup) (s : State) (h : Handed) (inv : Holds u s) where
   words-on : (w : ℕ) → h .job .phase ≡ Words w → (left : ℕ) → 4 * (w + suc left) ≡ h .job .length
       → (x : Before u s h (word ∷ (replicate left word ++ record-slot ∷ last-erase u s))) → s .journal .owed ≡ false → Stored u s h (4 * w) (x .working .c)
-      → Moving u (step u s (advanced-by (call u h))) (advance (s .ring) (s .fram) (call u h) .progress)
+      → Moves u s h
       (x .working .c) (x .working .origin) (replicate left word ++ record-slot ∷ last-erase u s)
   unfolding word-before in-phase working-on
   words-on w e zero long x o z =
@@ -405,6 +409,6 @@ module _ (u : Setup) (s : State) (h : Handed) (inv : Holds u s) where
       })
 
   pub writing : (w : ℕ) → h .job .phase ≡ Words w → (x : Writing u s h w)
-      → Moving u (step u s (advanced-by (call u h))) (advance (s .ring) (s .fram) (call u h) .progress)
+      → Moves u s h
       (x .before .working .c) (x .before .working .origin) (replicate (x .left) word ++ record-slot ∷ last-erase u s)
   writing w e x = words-on w e (x .left) (x .left-is) (x .before) (x .owed) (x .stored)

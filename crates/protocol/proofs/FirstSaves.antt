@@ -24,7 +24,7 @@ use Rattle.protocol.specs.History.{State, step, Keeps, left-by, refused}
 use Rattle.protocol.proofs.Facts.{passed}
 use Rattle.protocol.proofs.Invariant.{Good, half-of, page-in, slot-in, Durable-at, Untouched, Holds}
 use Rattle.protocol.proofs.Reading.{reads}
-use Rattle.protocol.proofs.Starts.{started, start-holds, begun-stopped, begun-none, Parts, parts-pass, save-arguments}
+use Rattle.protocol.proofs.Starts.{started, start-holds, begun-stopped, begun-none, Parts, parts-pass, save-arguments, same-arguments}
 
 abbrev pub first-call : Setup → FirstSave → FirstSave
 first-call u a = record { arguments = save-arguments u (a .arguments); starting-tag = a .starting-tag }
@@ -43,7 +43,8 @@ first-passes u ring fram a e =
     let e₂ = passed _ _ _ e₁ .1 in
     let e₃ = passed _ _ _ e₂ .1 in
     record {
-      nonce-long = eqb-true (length (a .arguments .nonce)) nonce-length (not-false _ (neither (key-wrong (length (u .key))) (nonce-wrong (length (a .arguments .nonce))) (sizes .0) .1));
+      nonce-long = eqb-true (length (a .arguments .nonce)) nonce-length
+          (not-false _ (neither (key-wrong (length (u .key))) (nonce-wrong (length (a .arguments .nonce))) (sizes .0) .1));
       tag-long = eqb-true (length (a .starting-tag)) tag-length (not-false _ (sizes .1));
       parts = parts-pass (a .arguments .open-part) (a .arguments .secret) fram (a .arguments .staging) (passed _ _ _ e₂ .0);
       ring-blank = not-false _ (passed _ _ _ e₃ .0);
@@ -69,7 +70,8 @@ module _ (u : Setup) (s : State) (inv : Holds u s) (a : FirstSave) (new : List·
       → Holds u (started u s (first-checkpoint (first-call u a)) Save 0 (job-of (u .key) (first-checkpoint (first-call u a)) (Words 0) Save 0 0 0) (a .arguments .staging))
   unfolding first-checkpoint
   first-begun e =
-      start-holds u s inv (first-checkpoint (first-call u a)) Save (Words 0) 0 0 0 (a .arguments .staging) good new (p .parts .staging-long) half-is page-is slot-is 0 refl (inl (x .none-owed, refl))
+      start-holds u s inv (first-checkpoint (first-call u a)) Save (Words 0) 0 0 0 (a .arguments .staging) good new (p .parts .staging-long)
+      half-is page-is slot-is 0 refl (inl (x .none-owed, refl))
     where
       p : First-passes u (s .ring) (s .fram) a
       p = first-passes u (s .ring) (s .fram) a e
@@ -115,5 +117,5 @@ module _ (u : Setup) (s : State) (inv : Holds u s) (a : FirstSave) (new : List·
 pub hold-first : (u : Setup) (s : State) (a : FirstSave) → Holds u s → Keeps u s (first-saved a) → Holds u (step u s (first-saved a))
 unfolding Keeps
 hold-first u s a inv (p, q, f) =
-    let path : first-call u a ≡ a = λ i. record { arguments = record { sizes = sym p i; key = sym q i; nonce = a .arguments .nonce; open-part = a .arguments .open-part; secret = a .arguments .secret; staging = a .arguments .staging }; starting-tag = a .starting-tag } in
+    let path : first-call u a ≡ a = λ i. record { arguments = same-arguments u (a .arguments) p q i; starting-tag = a .starting-tag } in
     subst (λ (b : FirstSave). Holds u (step u s (first-saved b))) path (first-go u s inv a f (first-save-stop (s .ring) (s .fram) (first-call u a)) refl)

@@ -76,11 +76,15 @@ Durable u ring fram nonces entry count owed power-ups =
 abbrev pub Durable-at : Setup → State → List ℕ → List ℕ → Bool → Type 0
 Durable-at u s ring fram owed = Durable u ring fram (s .nonces) (s .journal .entry) (s .journal .count) owed (s .journal .power-ups)
 
+-- the draft of checkpoint c: once it is recorded, as many power-ups are as it has restarts
+abbrev pub draft-of : Checkpoint → Origin → List Store → Draft
+draft-of c origin stores = record { checkpoint = c; origin = origin; power-ups = c .restarts; stores = stores }
+
 -- a job matches the draft of checkpoint c, whose record is or will be the n-th, and `stores` are to come
 pub record Working (u : Setup) (s : State) (h : Handed) (n : ℕ) (stores : List Store) : Type 0 where
   pub c : Checkpoint
   pub origin : Origin
-  pub draft-is : s .journal .draft ≡ some (record { checkpoint = c; origin = origin; power-ups = c .restarts; stores = stores })
+  pub draft-is : s .journal .draft ≡ some (draft-of c origin stores)
   pub good : Good c (half-length (s .fram))
   pub nonce-known : List·Memᴰ (c .nonce) (s .nonces)
   pub length-is : h .job .length ≡ length (sealed (u .key) c)
@@ -166,7 +170,7 @@ pub record Ended (u : Setup) (t : State) (c : Checkpoint) : Type 0 where
 pub record Moving (u : Setup) (t : State) (answer : Progress) (c : Checkpoint) (origin : Origin) (rest : List Store) : Type 0 where
   pub holds : Holds u t
   pub answered : answer ≡ answer-of origin rest
-  pub draft-is : t .journal .draft ≡ some (record { checkpoint = c; origin = origin; power-ups = c .restarts; stores = rest })
+  pub draft-is : t .journal .draft ≡ some (draft-of c origin rest)
   pub handed : Handed
   pub handed-is : t .handed ≡ some handed
   pub ended : rest ≡ [] → Ended u t c

@@ -18,7 +18,7 @@ use Rattle.protocol.specs.Journal.{Journal, Store, word, record-slot, er
 use Rattle.protocol.specs.History.{State, Handed, step, run, refused, is-stopped, Keeps}
 use Rattle.protocol.specs.Recovery.{is-advance, Uninterrupted, answered, answers, with-handed, advances-of, Stands}
 use Rattle.protocol.proofs.Facts.{T-true}
-use Rattle.protocol.proofs.Invariant.{page-in, slot-in, Durable-at, Recorded, Holds, answer-of, Ended, Moving}
+use Rattle.protocol.proofs.Invariant.{draft-of, page-in, slot-in, Durable-at, Recorded, Holds, answer-of, Ended, Moving}
 use Rattle.protocol.proofs.Reading.{record-found, reads, nonce-found, newest-half-is}
 use Rattle.protocol.proofs.Refused.{T→true, step-refused}
 use Rattle.protocol.proofs.Advances.{call}
@@ -108,7 +108,7 @@ answering u (e ∷ more) s (inr (t, p), k) = answering-advance u s e more t p (a
 
 -- from any state in which `stores` are left of the draft `new` of a power-up
 abbrev pub Ends : Setup → Checkpoint → List Event → Type 0
-Ends u new events = (t : State) → Holds u t → (stores : List Store) → t .journal .draft ≡ some (record { checkpoint = new; origin = PowerUp; power-ups = new .restarts; stores = stores })
+Ends u new events = (t : State) → Holds u t → (stores : List Store) → t .journal .draft ≡ some (draft-of new PowerUp stores)
     → (stores ≡ [] → Ended u t new) → (answers : List Progress) → Answering u t events answers → length answers ≡ length stores
     → (answers ≡ answers-of stores) × Stands u (run u t events) new
 
@@ -125,7 +125,7 @@ ends-nil u new t inv stores d f answers k l =
 ends-cons : (u : Setup) (new : Checkpoint) (e : Event) (more : List Event) → Ends u new more → Ends u new (e ∷ more)
 unfolding Answering run
 ends-cons u new e more ih t inv stores d f answers (inl (r, k)) l =
-    let all = subst (λ (y : State). Holds u y × (y .journal .draft ≡ some (record { checkpoint = new; origin = PowerUp; power-ups = new .restarts; stores = stores }))
+    let all = subst (λ (y : State). Holds u y × (y .journal .draft ≡ some (draft-of new PowerUp stores))
     × (stores ≡ [] → Ended u y new)) (sym (step-refused u t e r)) (inv, d, f) in
     ih (step u t e) (all .0) stores (all .1) (all .2) answers k l
 ends-cons u new e more ih t inv [] d f answers (inr (a, e′, z, h, later, q, k)) l =
@@ -166,7 +166,7 @@ runs-more u t h n e r k l =
     ((inr (tt, (refl, e)), k), ap (λ (a : List Progress). length a) (advance-answers u t (call u h) (advances-of u n (step u t (advanced-by (call u h)))) r) ∙ ap suc l)
 
 pub runs-on : (u : Setup) (new : Checkpoint) (stores : List Store) (t : State) (h : Handed) → Holds u t → t .handed ≡ some h
-    → t .journal .draft ≡ some (record { checkpoint = new; origin = PowerUp; power-ups = new .restarts; stores = stores })
+    → t .journal .draft ≡ some (draft-of new PowerUp stores)
     → Uninterrupted u t (advances-of u (length stores) t) × (length (answers u (advances-of u (length stores) t) t) ≡ length stores)
 unfolding Uninterrupted answers advances-of
 runs-on u new [] t h inv e d = (tt, refl)

@@ -23,7 +23,7 @@ use Rattle.protocol.specs.Calls.{Setup, PowerLoss, lost-in-store}
 use Rattle.protocol.specs.Operations.{job-record, recorded}
 use Rattle.protocol.specs.Journal.{entered, lost-into, Journal, Draft, Store, erase, word, record-slot, erase-if, to-come, made, dropped, whole}
 use Rattle.protocol.specs.History.{State, Handed, broken-ring, broken-fram, broken, step, Left, Keeps, left-by}
-use Rattle.protocol.proofs.Invariant.{sealed-fits, half-of, owed-page, Durable-at, Recorded, Durable, Working, last-erase, Writing, Recording, Doing, Holds}
+use Rattle.protocol.proofs.Invariant.{draft-of, sealed-fits, half-of, owed-page, Durable-at, Recorded, Durable, Working, last-erase, Writing, Recording, Doing, Holds}
 use Rattle.protocol.proofs.Advances.{erase-durable, fram-durable}
 use Rattle.protocol.proofs.Records.{recorded-durable, recorded-is, none-match, record-at, full, next-slot-blank, owing}
 
@@ -56,38 +56,38 @@ to-come-erase false = refl
 
 -- the journal after a power loss in an erase
 lost-erase : (j : Journal) (c : Checkpoint) (origin : Origin) (rest : List Store) (left : List ℕ)
-    → j .draft ≡ some (record { checkpoint = c; origin = origin; power-ups = c .restarts; stores = erase ∷ rest }) → j .owed ≡ true
+    → j .draft ≡ some (draft-of c origin (erase ∷ rest)) → j .owed ≡ true
     → lost-into j (j .draft) left ≡ record { entry = j .entry; count = j .count; owed = not (blank left); power-ups = j .power-ups; draft = none }
 unfolding lost-into whole made dropped
 lost-erase j c origin rest left d o =
     ap (λ (x : Option Draft). lost-into j x left) d ∙ go (blank left)
   where
-    go : (b : Bool) → dropped (cond b (made j (record { checkpoint = c; origin = origin; power-ups = c .restarts; stores = erase ∷ rest }) (erase ∷ rest)) j)
+    go : (b : Bool) → dropped (cond b (made j (draft-of c origin (erase ∷ rest)) (erase ∷ rest)) j)
         ≡ record { entry = j .entry; count = j .count; owed = not b; power-ups = j .power-ups; draft = none }
     go true = refl
     go false = ap (λ (b : Bool). record { entry = j .entry; count = j .count; owed = b; power-ups = j .power-ups; draft = none }) o
 
 lost-word : (j : Journal) (c : Checkpoint) (origin : Origin) (rest : List Store) (left : List ℕ)
-    → j .draft ≡ some (record { checkpoint = c; origin = origin; power-ups = c .restarts; stores = word ∷ rest }) → lost-into j (j .draft) left ≡ dropped j
+    → j .draft ≡ some (draft-of c origin (word ∷ rest)) → lost-into j (j .draft) left ≡ dropped j
 unfolding lost-into whole
 lost-word j c origin rest left d = ap (λ (x : Option Draft). lost-into j x left) d
 
 lost-record : (j : Journal) (c : Checkpoint) (origin : Origin) (b : Bool) (left : List ℕ)
-    → j .draft ≡ some (record { checkpoint = c; origin = origin; power-ups = c .restarts; stores = record-slot ∷ erase-if b }) → blank left ≡ false
+    → j .draft ≡ some (draft-of c origin (record-slot ∷ erase-if b)) → blank left ≡ false
     → lost-into j (j .draft) left ≡ record { entry = some c; count = j .count + 1; owed = b; power-ups = c .restarts; draft = none }
 unfolding lost-into whole made dropped
 lost-record j c origin b left d e =
     ap (λ (x : Option Draft). lost-into j x left) d
-    ∙ ap (λ (x : Bool). dropped (cond (not x) (made j (record { checkpoint = c; origin = origin; power-ups = c .restarts; stores = record-slot ∷ erase-if b }) (record-slot ∷ erase-if b)) j)) e
+    ∙ ap (λ (x : Bool). dropped (cond (not x) (made j (draft-of c origin (record-slot ∷ erase-if b)) (record-slot ∷ erase-if b)) j)) e
     ∙ ap (λ (x : Bool). record { entry = some c; count = j .count + 1; owed = x; power-ups = c .restarts; draft = none }) (to-come-erase b)
 
 lost-no-record : (j : Journal) (c : Checkpoint) (origin : Origin) (rest : List Store) (left : List ℕ)
-    → j .draft ≡ some (record { checkpoint = c; origin = origin; power-ups = c .restarts; stores = record-slot ∷ rest }) → blank left ≡ true
+    → j .draft ≡ some (draft-of c origin (record-slot ∷ rest)) → blank left ≡ true
     → lost-into j (j .draft) left ≡ dropped j
 unfolding lost-into whole
 lost-no-record j c origin rest left d e =
     ap (λ (x : Option Draft). lost-into j x left) d
-    ∙ ap (λ (x : Bool). dropped (cond (not x) (made j (record { checkpoint = c; origin = origin; power-ups = c .restarts; stores = record-slot ∷ rest }) (record-slot ∷ rest)) j)) e
+    ∙ ap (λ (x : Bool). dropped (cond (not x) (made j (draft-of c origin (record-slot ∷ rest)) (record-slot ∷ rest)) j)) e
 
 put-part : (xs : List ℕ) (i n : ℕ) → i + n ≤ length xs → put xs i (part xs i n) ≡ xs
 unfolding put part
@@ -115,7 +115,7 @@ module _ (u : Setup) (s : State) (inv : Holds u s) (h : Handed) (left : List ℕ
     journal = j;
   }
 
-  loss-in-erase : (p : ℕ) (c : Checkpoint) (origin : Origin) (rest : List Store) → s .journal .draft ≡ some (record { checkpoint = c; origin = origin; power-ups = c .restarts; stores = erase ∷ rest })
+  loss-in-erase : (p : ℕ) (c : Checkpoint) (origin : Origin) (rest : List Store) → s .journal .draft ≡ some (draft-of c origin (erase ∷ rest))
       → s .journal .owed ≡ true → p ≡ owed-page u s → length left ≡ slot-length * u .sizes .slots
       → Holds u (record {
         ring = page-put (s .ring) (u .sizes .slots) p left;

@@ -21,13 +21,13 @@ use Rattle.checkpoint.specs.Checkpoint.{Checkpoint, own-tag, sealed}
 use Rattle.checkpoint.specs.Half.{stored}
 use Rattle.checkpoint.specs.Fram.{half-length}
 use Rattle.protocol.specs.Types.{Session, Phase, Record, EraseAfter, Done}
-use Rattle.protocol.specs.Calls.{Setup, advanced-by}
+use Rattle.protocol.specs.Calls.{Setup}
 use Rattle.protocol.specs.Operations.{Moved, job-record, session-of, in-phase, phase-wrong, going-on, ended, recorded, erase-follows, after-record, store, advance}
 use Rattle.protocol.specs.Journal.{Journal, Draft, Store, erase, erase-if, to-come, made, advanced}
-use Rattle.protocol.specs.History.{State, Handed, step}
+use Rattle.protocol.specs.History.{State, Handed}
 use Rattle.protocol.proofs.Facts.{no-fact}
-use Rattle.protocol.proofs.Invariant.{Good, session-in, half-of, page-in, slot-in, Durable-at, Recorded, Durable, Working, last-erase, Recording, Holds, Moving}
-use Rattle.protocol.proofs.Advances.{call, after, advance-stores, after-going, after-ended, working-on, doing-of}
+use Rattle.protocol.proofs.Invariant.{draft-of, Good, session-in, half-of, page-in, slot-in, Durable-at, Recorded, Durable, Working, last-erase, Recording, Holds, Moving}
+use Rattle.protocol.proofs.Advances.{Moves, call, after, advance-stores, after-going, after-ended, working-on, doing-of}
 
 last-snoc : (rs : List (List ℕ)) (r : List ℕ) → last (rs ++ r ∷ []) ≡ r
 last-snoc [] r = refl
@@ -237,7 +237,7 @@ module _ {u : Setup} {s : State} {h : Handed} (inv : Holds u s) (x : Recording u
     count = s .journal .count + 1;
     owed = to-come (erase-if b);
     power-ups = x .before .working .c .restarts;
-    draft = some (record { checkpoint = x .before .working .c; origin = x .before .working .origin; power-ups = x .before .working .c .restarts; stores = erase-if b });
+    draft = some (draft-of (x .before .working .c) (x .before .working .origin) (erase-if b));
   }
 
   journal-is : advanced (s .journal) (s .journal .draft) ≡ journal-with (full (u .sizes .slots) (s .journal .count))
@@ -272,7 +272,7 @@ module _ {u : Setup} {s : State} {h : Handed} (inv : Holds u s) (x : Recording u
   none-match z m c e l = absurd (x .before .unlike z m (let q : x .before .working .c ≡ c = cc in l ∙ ap (λ (y : Checkpoint). y .nonce) (sym q)))
 
   recording-go : h .job .phase ≡ Record → (b : Bool) → full (u .sizes .slots) (s .journal .count) ≡ b
-      → Moving u (step u s (advanced-by (call u h))) (advance (s .ring) (s .fram) (call u h) .progress) (x .before .working .c) (x .before .working .origin) (erase-if b)
+      → Moves u s h (x .before .working .c) (x .before .working .origin) (erase-if b)
   unfolding erase-if to-come in-phase working-on
   recording-go e true f =
       after-going u s h (λ t a. Moving u t a (x .before .working .c) (x .before .working .origin) (erase ∷ [])) phase new (s .fram) (journal-with true)
@@ -326,7 +326,7 @@ module _ {u : Setup} {s : State} {h : Handed} (inv : Holds u s) (x : Recording u
       })
     where
       d : Draft
-      d = record { checkpoint = x .before .working .c; origin = x .before .working .origin; power-ups = x .before .working .c .restarts; stores = [] }
+      d = draft-of (x .before .working .c) (x .before .working .origin) []
 
       k : Handed
       k = record { job = in-phase (h .job) Done; staging = h .staging }
@@ -335,5 +335,5 @@ module _ {u : Setup} {s : State} {h : Handed} (inv : Holds u s) (x : Recording u
       t = after s h Done new (s .fram) (session-of (h .job) ∷ s .sessions) (journal-with false)
 
   pub recording : h .job .phase ≡ Record
-      → Moving u (step u s (advanced-by (call u h))) (advance (s .ring) (s .fram) (call u h) .progress) (x .before .working .c) (x .before .working .origin) (last-erase u s)
+      → Moves u s h (x .before .working .c) (x .before .working .origin) (last-erase u s)
   recording e = recording-go e (full (u .sizes .slots) (s .journal .count)) refl

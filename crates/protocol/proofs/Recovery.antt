@@ -23,7 +23,7 @@ use Rattle.protocol.specs.Operations.{key-wrong, nonce-wrong, staging-wr
 use Rattle.protocol.specs.Journal.{Store, drafted, stores-of, power-up-draft}
 use Rattle.protocol.specs.History.{State, fresh, step, run, Allowed}
 use Rattle.protocol.specs.Recovery.{Exactly, Fits, Last, answers, Resumes, Outcome, Recovery}
-use Rattle.protocol.proofs.Invariant.{Durable-at, Untouched, Holds, Ended}
+use Rattle.protocol.proofs.Invariant.{draft-of, Durable-at, Untouched, Holds, Ended}
 use Rattle.protocol.proofs.Reading.{reads, new-nonce, head-found, tag-found, restarts-found}
 use Rattle.protocol.proofs.Starts.{started}
 use Rattle.protocol.proofs.PowerUps.{power-call, Entry, resuming-job, power-up-is, resuming-holds, step-is}
@@ -129,7 +129,7 @@ module _ (u : Setup) (s : State) (inv : Holds u s) (a : PowersUp) (key-long : le
         holds : Holds u t
         holds = subst (λ (y : State). Holds u y) (sym is) (resuming-holds u s inv a c r (l .nonce-long) (l .staging) (l .nonce-new) few)
 
-        draft : t .journal .draft ≡ some (record { checkpoint = new; origin = PowerUp; power-ups = new .restarts; stores = stores })
+        draft : t .journal .draft ≡ some (draft-of new PowerUp stores)
         draft = ap (λ (y : State). y .journal .draft) is ∙ (λ i. some (record { checkpoint = new; origin = PowerUp; power-ups = r .restarts-are i + 1; stores = stores }))
 
         y : (x : Store) × (rest : List Store) × (stores ≡ x ∷ rest)

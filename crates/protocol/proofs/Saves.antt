@@ -27,7 +27,7 @@ use Rattle.protocol.specs.History.{State, step, Keeps, left-by, refused}
 use Rattle.protocol.proofs.Facts.{no-fact, passed}
 use Rattle.protocol.proofs.Invariant.{Good, Durable-at, Recorded, Holds}
 use Rattle.protocol.proofs.Reading.{reads, nonce-found, target-page-found, target-slot-found, other-half}
-use Rattle.protocol.proofs.Starts.{started, start-holds, begun-stopped, begun-none, Parts, parts-pass, save-arguments}
+use Rattle.protocol.proofs.Starts.{started, start-holds, begun-stopped, begun-none, Parts, parts-pass, save-arguments, same-arguments}
 
 abbrev pub save-call : Setup → Saves → Saves
 save-call u a = record { arguments = save-arguments u (a .arguments); session = a .session }
@@ -160,5 +160,5 @@ module _ (u : Setup) (s : State) (inv : Holds u s) (a : Saves) (new : List·Mem�
 pub hold-saved : (u : Setup) (s : State) (a : Saves) → Holds u s → Keeps u s (saved a) → Holds u (step u s (saved a))
 unfolding Keeps
 hold-saved u s a inv (p, q, f, m) =
-    let path : save-call u a ≡ a = λ i. record { arguments = record { sizes = sym p i; key = sym q i; nonce = a .arguments .nonce; open-part = a .arguments .open-part; secret = a .arguments .secret; staging = a .arguments .staging }; session = a .session } in
+    let path : save-call u a ≡ a = λ i. record { arguments = same-arguments u (a .arguments) p q i; session = a .session } in
     subst (λ (b : Saves). Holds u (step u s (saved b))) path (save-go u s inv a f m (save-stop (s .ring) (s .fram) (save-call u a)) refl)

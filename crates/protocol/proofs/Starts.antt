@@ -18,7 +18,7 @@ use Rattle.checkpoint.specs.Half.{stored}
 use Rattle.checkpoint.specs.Fram.{half-length}
 use Rattle.protocol.specs.Types.{Origin, Job, Phase, EraseFirst, Words}
 use Rattle.protocol.specs.Calls.{Setup, SaveArguments}
-use Rattle.protocol.specs.Operations.{job-of, begin, parts-wrong, staging-wrong}
+use Rattle.protocol.specs.Operations.{Begin, job-of, begin, parts-wrong, staging-wrong}
 use Rattle.protocol.specs.Journal.{Journal, Store, erase, word, record-slot, erase-if, drafted, stores-of}
 use Rattle.protocol.specs.History.{State, Handed, begun, is-stop}
 use Rattle.protocol.proofs.Invariant.{Good, length-good, sealed-fits, half-of, page-in, slot-in, owed-page, Durable, Before, last-erase, Doing, Holds}
@@ -125,9 +125,21 @@ module _ (u : Setup) (s : State) (inv : Holds u s) (c : Checkpoint) (origin : Or
   start-doing : Begins u s phase → Doing u t h phase
   unfolding drafted job-of before
   start-doing (inl (o, p)) = subst (λ (q : Phase). Doing u t h q) (sym p)
-      (record { left = left; left-is = omega (arith, left-is); before = before (word ∷ (replicate left word ++ record-slot ∷ last-erase u s)) (plain (u .key) (u .sizes .slots) (s .journal) c left o words-are); owed = o; stored = λ k l. absurd (omega arith) })
+      (record {
+        left = left;
+        left-is = omega (arith, left-is);
+        before = before (word ∷ (replicate left word ++ record-slot ∷ last-erase u s)) (plain (u .key) (u .sizes .slots) (s .journal) c left o words-are);
+        owed = o;
+        stored = λ k l. absurd (omega arith);
+      })
   start-doing (inr (o, p)) = subst (λ (q : Phase). Doing u t h q) (sym p)
-      (record { left = left; left-is = left-is; before = before (erase ∷ word ∷ (replicate left word ++ record-slot ∷ last-erase u s)) (owing (u .key) (u .sizes .slots) (s .journal) c left o words-are); owed = o; page-is = refl })
+      (record {
+        left = left;
+        left-is = left-is;
+        before = before (erase ∷ word ∷ (replicate left word ++ record-slot ∷ last-erase u s)) (owing (u .key) (u .sizes .slots) (s .journal) c left o words-are);
+        owed = o;
+        page-is = refl;
+      })
 
   pub start-holds : Begins u s phase → Holds u (started u s c origin power-ups (job-of (u .key) c phase origin half page slot) staging)
   unfolding drafted job-of
@@ -143,11 +155,14 @@ module _ (u : Setup) (s : State) (inv : Holds u s) (c : Checkpoint) (origin : Or
 -- ---- a start's answer, by its stop
 
 module _ (s : State) (o : Option ℕ) (key : List ℕ) (c : Checkpoint) (job : Job) (staging state secret nonce : List ℕ) (j : Journal) where
-  pub begun-stopped : (x : ℕ) → o ≡ some x → begun s (begin o key c job staging state secret .answer) (begin o key c job staging state secret) nonce (cond (is-stop (begin o key c job staging state secret .answer)) (s .journal) j) ≡ s
+  abbrev answered : Begin
+  answered = begin o key c job staging state secret
+
+  pub begun-stopped : (x : ℕ) → o ≡ some x → begun s (answered .answer) answered nonce (cond (is-stop (answered .answer)) (s .journal) j) ≡ s
   unfolding begin begun is-stop
   begun-stopped x e = rw e
 
-  pub begun-none : o ≡ none → begun s (begin o key c job staging state secret .answer) (begin o key c job staging state secret) nonce (cond (is-stop (begin o key c job staging state secret .answer)) (s .journal) j) ≡ record {
+  pub begun-none : o ≡ none → begun s (answered .answer) answered nonce (cond (is-stop (answered .answer)) (s .journal) j) ≡ record {
     ring = s .ring;
     fram = s .fram;
     handed = some (record { job = job; staging = put staging 0 (sealed key c) });
@@ -189,3 +204,7 @@ parts-pass open-part secret fram staging e =
 -- the same arguments with the unit's sizes and key
 abbrev pub save-arguments : Setup → SaveArguments → SaveArguments
 save-arguments u a = record { sizes = u .sizes; key = u .key; nonce = a .nonce; open-part = a .open-part; secret = a .secret; staging = a .staging }
+
+-- they are the same where document 01's rules are kept
+pub same-arguments : (u : Setup) (a : SaveArguments) → a .sizes ≡ u .sizes → a .key ≡ u .key → save-arguments u a ≡ a
+same-arguments u a p q = λ i. record { sizes = sym p i; key = sym q i; nonce = a .nonce; open-part = a .open-part; secret = a .secret; staging = a .staging }

@@ -11,7 +11,7 @@ use Rattle.protocol.specs.Operations.{finished, advance-stop, advance}
 use Rattle.protocol.specs.Journal.{Store, to-come}
 use Rattle.protocol.specs.History.{State, Handed, step, refused, Keeps}
 use Rattle.protocol.specs.Recovery.{ending, said, Told}
-use Rattle.protocol.proofs.Invariant.{Doing, Holds, Moving, answer-of}
+use Rattle.protocol.proofs.Invariant.{draft-of, Doing, Holds, Moving, answer-of}
 use Rattle.protocol.proofs.Advances.{call, erasing-first, writing}
 use Rattle.protocol.proofs.Records.{recording}
 use Rattle.protocol.proofs.Advancing.{erasing-after, done-refused}
@@ -21,7 +21,7 @@ unfolding finished ending
 same-end Save = refl
 same-end PowerUp = refl
 
-said-is : (c : Checkpoint) (origin : Origin) (rest : List Store) → answer-of origin rest ≡ said (some (record { checkpoint = c; origin = origin; power-ups = c .restarts; stores = rest }))
+said-is : (c : Checkpoint) (origin : Origin) (rest : List Store) → answer-of origin rest ≡ said (some (draft-of c origin rest))
 unfolding said to-come
 said-is c origin [] = same-end origin
 said-is c origin (x ∷ rest) = refl
