@@ -89,9 +89,11 @@ module _ (u : Setup) (s : State) (h : Handed) (P : State → Progress → Type 0
       → P (step u s (advanced-by (call u h))) (advance (s .ring) (s .fram) (call u h) .progress)
   unfolding step left-by entered refused is-stopped moved ended finished
   after-ended Save ring fram j o e f x =
-      rw e (subst (λ (q : Origin). P (moved s (finished q) (ended (h .job) ring fram) (h .staging) (cond (is-stopped (finished q)) (s .journal) (advanced (s .journal) (s .journal .draft)))) (finished q)) (sym o) (rw f x))
+      rw e (subst (λ (q : Origin). P (moved s (finished q) (ended (h .job) ring fram) (h .staging)
+      (cond (is-stopped (finished q)) (s .journal) (advanced (s .journal) (s .journal .draft)))) (finished q)) (sym o) (rw f x))
   after-ended PowerUp ring fram j o e f x =
-      rw e (subst (λ (q : Origin). P (moved s (finished q) (ended (h .job) ring fram) (h .staging) (cond (is-stopped (finished q)) (s .journal) (advanced (s .journal) (s .journal .draft)))) (finished q)) (sym o) (rw f x))
+      rw e (subst (λ (q : Origin). P (moved s (finished q) (ended (h .job) ring fram) (h .staging)
+      (cond (is-stopped (finished q)) (s .journal) (advanced (s .journal) (s .journal .draft)))) (finished q)) (sym o) (rw f x))
 
 -- a job in its next phase
 unfoldable pub working-on : {u : Setup} {s : State} {h : Handed} {n : ℕ} {stores : List Store} (t : State) (rest : List Store) (p : Phase) (w : Working u s h n stores)
@@ -120,7 +122,8 @@ pub doing-of : (u : Setup) (t : State) (h : Handed) → t .handed ≡ some h →
 doing-of u t h e d k f = let q : h ≡ k = cc in subst (λ (x : Handed). Doing u t x (x .job .phase)) q d
 
 -- an erase of the page that awaits it, whole or interrupted
-pub erase-durable : {u : Setup} {ring fram : List ℕ} {nonces : List (List ℕ)} {entry : Option Checkpoint} {count power-ups : ℕ} (left : List ℕ) → length left ≡ slot-length * u .sizes .slots
+pub erase-durable : {u : Setup} {ring fram : List ℕ} {nonces : List (List ℕ)} {entry : Option Checkpoint} {count power-ups : ℕ}
+    (left : List ℕ) → length left ≡ slot-length * u .sizes .slots
     → Durable u ring fram nonces entry count true power-ups
     → (ring-wrong (u .sizes .pages) (u .sizes .slots) (page-put ring (u .sizes .slots) (page-before (u .sizes .pages) (page-in u count)) left) ≡ false)
     × Durable u (page-put ring (u .sizes .slots) (page-before (u .sizes .pages) (page-in u count)) left) fram nonces entry count (not (blank left)) power-ups
@@ -353,7 +356,8 @@ module _ {u : Setup} {s : State} {h : Handed} {rest : List Store} (inv : Holds u
       → Moves u s h (x .working .c) (x .working .origin) rest
   unfolding in-phase advanced made store phase-wrong
   word-moving p e next more doing =
-      after-going u s h (λ t a. Moving u t a (x .working .c) (x .working .origin) rest) p (s .ring) fram (t .journal) moves (ap (λ (d : Option Draft). advanced (s .journal) d) (x .working .draft-is))
+      after-going u s h (λ t a. Moving u t a (x .working .c) (x .working .origin) rest) p (s .ring) fram (t .journal) moves
+      (ap (λ (d : Option Draft). advanced (s .journal) d) (x .working .draft-is))
       (record {
         holds = record {
           ring-right = inv .ring-right;

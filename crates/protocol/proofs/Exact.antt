@@ -26,7 +26,8 @@ unfolding begin start-answer
 begin-answers none key c job staging state secret = refl
 begin-answers (some x) key c job staging state secret = refl
 
-recorded-ring : (b : Bool) (j : Job) (p : Phase) (new fram : List ℕ) → (cond b (going-on j p new fram) (ended j new fram) .ring ≡ new) × (cond b (going-on j p new fram) (ended j new fram) .fram ≡ fram)
+recorded-ring : (b : Bool) (j : Job) (p : Phase) (new fram : List ℕ)
+    → (cond b (going-on j p new fram) (ended j new fram) .ring ≡ new) × (cond b (going-on j p new fram) (ended j new fram) .fram ≡ fram)
 unfolding going-on ended
 recorded-ring true j p new fram = (refl, refl)
 recorded-ring false j p new fram = (refl, refl)

@@ -132,7 +132,8 @@ module _ (u : Setup) (ring fram : List ℕ) (b : blank ring ≡ true) (f : Fits 
 
   first-after : After u (run u start (to-its-end u start (first-saved (numbered-first u 0)))) 1 0
   unfolding fresh empty first-checkpoint
-  first-after = after-whole u start 0 (first-checkpoint (numbered-first u 0)) (to-its-end u start (first-saved (numbered-first u 0))) first-whole refl (λ m k. absurd (List·Memᴰ·not-nil k)) (lit< tt)
+  first-after = after-whole u start 0 (first-checkpoint (numbered-first u 0)) (to-its-end u start (first-saved (numbered-first u 0)))
+      first-whole refl (λ m k. absurd (List·Memᴰ·not-nil k)) (lit< tt)
 
 -- a power-up
 module _ (u : Setup) (key-long : length (u .key) ≡ key-length) (s : State) (n k : ℕ) (x : After u s n k) (h : n < 2 ^ 96) where
@@ -167,7 +168,8 @@ module _ (u : Setup) (key-long : length (u .key) ≡ key-length) (s : State) (n 
         (refl, refl, new-here)
         (subst (λ (y : State). Holds u y) (sym is) (resuming-holds u s holds a (x .c) r (last-here .nonce-long) (last-here .staging) new-here fewer))
         (ap (λ (y : State). y .handed) is)
-        (ap (λ (y : State). y .journal .draft) is ∙ (λ i. some (record { checkpoint = next; origin = PowerUp; power-ups = r .restarts-are i + 1; stores = stores-of (u .key) (u .sizes .slots) (s .journal) next })))
+        (ap (λ (y : State). y .journal .draft) is
+        ∙ (λ i. some (record { checkpoint = next; origin = PowerUp; power-ups = r .restarts-are i + 1; stores = stores-of (u .key) (u .sizes .slots) (s .journal) next })))
         (ap (λ (y : State). y .journal .count) is) (ap (λ (y : State). y .nonces) is)
 
     power-after : After u (run u s (to-its-end u s (powered-up (numbered-power-up u n)))) (suc n) (suc k)
@@ -259,9 +261,11 @@ module _ (u : Setup) (key-long : length (u .key) ≡ key-length) where
       let l : i < 2 ^ 96 = omega arith in
       let m : suc i + n < 2 ^ 96 = omega arith in
       let c : k < restart-limit = omega arith in
+      let e : suc i + n ≡ i + suc n = omega arith in
+      let e′ : suc k + n ≡ k + suc n = omega arith in
       let more = power-ups-row (suc i) n (suc k) (run u s events) (power-after u key-long s i k x l c) (omega arith) m in
       row-more u s events (power-ups-on u (suc i) n (run u s events)) (i + suc n) (k + suc n) (power-whole u key-long s i k x l c .allowed)
-      (subst₂ (λ (a b : ℕ). Row u (run u s events) (power-ups-on u (suc i) n (run u s events)) a b) (let e : suc i + n ≡ i + suc n = omega arith in e) (let e : suc k + n ≡ k + suc n = omega arith in e) more)
+      (subst₂ (λ (a b : ℕ). Row u (run u s events) (power-ups-on u (suc i) n (run u s events)) a b) e e′ more)
 
   saves-row : (i n : ℕ) (s : State) → (k : ℕ) → After u s i k → (k ≡ 0) → i + n < 2 ^ 96 → Row u s (saves-on u i n s) (i + n) 0
   unfolding saves-on with-session run Allowed

@@ -39,7 +39,12 @@ stands u t new inv x = go (inv .durable)
           (newest-half-is (inv .fram-right) r)
           ∙ take-append-seam (sealed (u .key) c) _;
       earlier = z .earlier;
-      session = z .session ∙ (λ i. record { page = page-in u (t .journal .count); slot = slot-in u (t .journal .count); latest = sym (record-found (inv .fram-right) r) i; tag = own-tag (u .key) c } ∷ z .earlier);
+      session = z .session ∙ (λ i. record {
+        page = page-in u (t .journal .count);
+        slot = slot-in u (t .journal .count);
+        latest = sym (record-found (inv .fram-right) r) i;
+        tag = own-tag (u .key) c;
+      } ∷ z .earlier);
     })
 
     same-entry : (c : Checkpoint) → t .journal .entry ≡ some c → c ≡ new

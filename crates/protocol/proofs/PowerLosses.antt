@@ -221,7 +221,8 @@ module _ (u : Setup) (s : State) (inv : Holds u s) (h : Handed) (left : List ℕ
           (is-record-of (h .job .nonce) (h .job .half) l (rw (k .half-is) (omega arith))))
   loss-in-record d (inr e) =
       subst₂ (λ (ring : List ℕ) (j : Journal). Holds u (record { ring = ring; fram = s .fram; handed = none; sessions = s .sessions; nonces = s .nonces; journal = j }))
-      (sym (ap (λ (l : List ℕ). record-put (s .ring) (u .sizes .slots) (h .job .page) (h .job .slot) l) e ∙ put-blank (s .ring) (u .sizes .slots) (h .job .page) (h .job .slot) within slot-blank))
+      (sym (ap (λ (l : List ℕ). record-put (s .ring) (u .sizes .slots) (h .job .page) (h .job .slot) l) e
+      ∙ put-blank (s .ring) (u .sizes .slots) (h .job .page) (h .job .slot) within slot-blank))
       (sym (lost-no-record (s .journal) (k .c) (k .origin) (last-erase u s) left (k .draft-is) (ap blank e ∙ blank-erased slot-length)))
       (hold-dropped u s inv)
     where
@@ -251,4 +252,6 @@ module _ (u : Setup) (s : State) (inv : Holds u s) (h : Handed) (left : List ℕ
 
 pub hold-lost-in-store : (u : Setup) (s : State) (left : List ℕ) → Holds u s → Keeps u s (lost-in-store left) → Holds u (step u s (lost-in-store left))
 unfolding step left-by entered broken Keeps
-hold-lost-in-store u s left inv (h, e, l) = subst (λ (o : Option Handed). Holds u (broken u s o left (lost-into (s .journal) (s .journal .draft) left))) (sym e) (loss-in-phase u s inv h left (h .job .phase) (inv .doing h e) l)
+hold-lost-in-store u s left inv (h, e, l) =
+    subst (λ (o : Option Handed). Holds u (broken u s o left (lost-into (s .journal) (s .journal .draft) left))) (sym e)
+    (loss-in-phase u s inv h left (h .job .phase) (inv .doing h e) l)

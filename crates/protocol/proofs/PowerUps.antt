@@ -52,7 +52,8 @@ module _ (u : Setup) (s : State) (inv : Holds u s) (a : PowersUp) (c : Checkpoin
   opened = rw reads-as (checkpoint-found (inv .fram-right) r)
 
   pub power-up-is : power-up (s .ring) (s .fram) (power-call u a)
-      ≡ begin (power-up-stop (s .ring) (s .fram) (power-call u a)) (u .key) (power-up-draft (u .key) (a .nonce) c) (resuming-job u s (power-up-draft (u .key) (a .nonce) c)) (a .staging) (a .state) (c .secret)
+      ≡ begin (power-up-stop (s .ring) (s .fram) (power-call u a)) (u .key) (power-up-draft (u .key) (a .nonce) c)
+      (resuming-job u s (power-up-draft (u .key) (a .nonce) c)) (a .staging) (a .state) (c .secret)
   unfolding power-up resumed power-up-draft
   power-up-is = λ i. F (opened i) (phase i) (half i) (page i) (slot i)
     where
@@ -100,15 +101,18 @@ module _ (u : Setup) (s : State) (inv : Holds u s) (a : PowersUp) (c : Checkpoin
         fits = r .good .fits;
       }
 
-  resumed-draft : resumed-entry (u .key) (a .nonce) (s .journal .entry) (s .journal) (u .sizes .slots) ≡ drafted (u .key) (u .sizes .slots) PowerUp (power-up-draft (u .key) (a .nonce) c) (s .journal .power-ups + 1) (s .journal)
+  resumed-draft : resumed-entry (u .key) (a .nonce) (s .journal .entry) (s .journal) (u .sizes .slots)
+      ≡ drafted (u .key) (u .sizes .slots) PowerUp (power-up-draft (u .key) (a .nonce) c) (s .journal .power-ups + 1) (s .journal)
   unfolding resumed-entry
   resumed-draft = ap (λ (o : Option Checkpoint). resumed-entry (u .key) (a .nonce) o (s .journal) (u .sizes .slots)) (r .entry-is)
 
   pub step-is : power-up-stop (s .ring) (s .fram) (power-call u a) ≡ none
-      → step u s (powered-up (power-call u a)) ≡ started u s (power-up-draft (u .key) (a .nonce) c) PowerUp (s .journal .power-ups + 1) (resuming-job u s (power-up-draft (u .key) (a .nonce) c)) (a .staging)
+      → step u s (powered-up (power-call u a))
+      ≡ started u s (power-up-draft (u .key) (a .nonce) c) PowerUp (s .journal .power-ups + 1) (resuming-job u s (power-up-draft (u .key) (a .nonce) c)) (a .staging)
   unfolding step left-by entered refused power-up-draft
   step-is e =
-      ap (λ (b : Begin). begun s (b .answer) b (a .nonce) (cond (is-stop (b .answer)) (s .journal) (resumed-entry (u .key) (a .nonce) (s .journal .entry) (s .journal) (u .sizes .slots)))) power-up-is
+      ap (λ (b : Begin). begun s (b .answer) b (a .nonce)
+      (cond (is-stop (b .answer)) (s .journal) (resumed-entry (u .key) (a .nonce) (s .journal .entry) (s .journal) (u .sizes .slots)))) power-up-is
       ∙ begun-none s (power-up-stop (s .ring) (s .fram) (power-call u a)) _ _ _ _ _ _ _ _ e
       ∙ ap (λ (j : Journal). record {
         ring = s .ring;

@@ -36,7 +36,8 @@ none-used : (nonce : List ℕ) (nonces : List (List ℕ)) → (List·Memᴰ nonc
 none-used nonce nonces f [] k = refl
 none-used nonce nonces f (r ∷ rs) k = go (none-used nonce nonces f rs (λ q m. k q (List·Memᴰ·tail m))) (same (take nonce-length r) nonce) refl
   where
-    go : any (λ r. same (take nonce-length r) nonce) rs ≡ false → (b : Bool) → same (take nonce-length r) nonce ≡ b → (same (take nonce-length r) nonce || any (λ r. same (take nonce-length r) nonce) rs) ≡ false
+    go : any (λ r. same (take nonce-length r) nonce) rs ≡ false → (b : Bool) → same (take nonce-length r) nonce ≡ b
+        → (same (take nonce-length r) nonce || any (λ r. same (take nonce-length r) nonce) rs) ≡ false
     go ih true e = absurd (f (subst (λ (n : List ℕ). List·Memᴰ n nonces) (same-equal (take nonce-length r) nonce e) (k r (List·Memᴰ·head refl))))
     go ih false e = rw e ih
 

@@ -80,7 +80,8 @@ module _ (pages slots : ℕ) (ring : List ℕ) (count : ℕ) (r : List ℕ) (P :
         ringed = rw some-before x;
         latest = last-joined (eqb (count % slots) 0) recs r;
         known = known-joined P (eqb (count % slots) 0) recs r f p;
-        test = rw some-before (and-test (eqb (slot-of slots (count + 1)) 0) (eqb (count % slots) 0) (blank (page-at (record-at pages slots ring count r) slots (page-before pages (page-of pages slots (count + 1)))))
+        test = rw some-before (and-test (eqb (slot-of slots (count + 1)) 0) (eqb (count % slots) 0)
+            (blank (page-at (record-at pages slots ring count r) slots (page-before pages (page-of pages slots (count + 1)))))
             (ap (λ (n : ℕ). eqb (n % slots) 0) (add-sub-cancel count 1)) (λ e. x .pending e .1));
       }
 
@@ -129,7 +130,8 @@ module _ {u : Setup} {ring fram : List ℕ} {nonces : List (List ℕ)} {entry : 
 
   pub record-durable : {power-ups′ : ℕ} → Durable u ring fram nonces entry count false power-ups
       → Written fram (half-of (count + 1) * half-length fram) (length (sealed (u .key) c)) (sealed (u .key) c) → power-ups′ ≡ c .restarts
-      → Recorded u (record-at (u .sizes .pages) (u .sizes .slots) ring count (record-of (c .nonce) (half-of (count + 1)))) fram nonces (some c) (count + 1) (full (u .sizes .slots) count) power-ups′ c
+      → Recorded u (record-at (u .sizes .pages) (u .sizes .slots) ring count (record-of (c .nonce) (half-of (count + 1)))) fram nonces
+      (some c) (count + 1) (full (u .sizes .slots) count) power-ups′ c
   record-durable d w r =
       let x = new-ring d in
       record { entry-is = refl; recs = x .recs; ringed = x .ringed; latest = x .latest; good = good; restarts-are = r; there = w; known = x .known }

@@ -111,7 +111,9 @@ module _ (u : Setup) (s : State) (inv : Holds u s) (a : PowersUp) (key-long : le
       length-answered = ap (λ (b : Begin). b .secret-length) power-up-begins;
       restored = ap (λ (b : Begin). b .state) power-up-begins;
       runs = runs-on u new stores t (record { job = resuming-job u s new; staging = put (a .staging) 0 (sealed (u .key) new) }) holds (ap (λ (y : State). y .handed) is) draft;
-      ends = λ events k n. let x = ends u new events t holds stores draft (λ q. no-end q) (answers u events t) (answering u events t k) n in (answers-end stores (answers u events t) (y .0) (y .1) (y .2) (x .0) n, x .1);
+      ends = λ events k n.
+          let x = ends u new events t holds stores draft (λ q. no-end q) (answers u events t) (answering u events t k) n in
+          (answers-end stores (answers u events t) (y .0) (y .1) (y .2) (x .0) n, x .1);
     }
       where
         new : Checkpoint
@@ -168,11 +170,16 @@ exactly-fresh u ring fram b events k false true p q = exactly-unfit u events (fr
 
 pub recovery : Recovery
 unfolding Recovery
-recovery u ring fram b events k = (exactly-fresh u ring fram b events k (ring-wrong (u .sizes .pages) (u .sizes .slots) ring) (fram-wrong fram) refl refl, λ f. (seen u (run u (fresh ring fram) events) (hold-run u events (fresh ring fram) (hold-fresh u ring fram (f .ring-right) (f .fram-right) b) k) (f .key-right), after-list f))
+recovery u ring fram b events k = (
+  exactly-fresh u ring fram b events k (ring-wrong (u .sizes .pages) (u .sizes .slots) ring) (fram-wrong fram) refl refl,
+  λ f. (seen u (run u (fresh ring fram) events) (held f) (f .key-right), after-list f),
+)
   where
+    held : Fits u ring fram → Holds u (run u (fresh ring fram) events)
+    held f = hold-run u events (fresh ring fram) (hold-fresh u ring fram (f .ring-right) (f .fram-right) b) k
+
     after-list : Fits u ring fram → (a : PowersUp) → Last u (run u (fresh ring fram) events) a → Outcome u (run u (fresh ring fram) events) a
     after-list f a l =
         let s = run u (fresh ring fram) events in
-        let inv = hold-run u events (fresh ring fram) (hold-fresh u ring fram (f .ring-right) (f .fram-right) b) k in
         let path : power-call u a ≡ a = λ i. record { sizes = sym (l .sizes) i; key = sym (l .key) i; nonce = a .nonce; staging = a .staging; state = a .state } in
-        subst (λ (y : PowersUp). Outcome u s y) path (outcome u s inv a (f .key-right) (subst (λ (y : PowersUp). Last u s y) (sym path) l))
+        subst (λ (y : PowersUp). Outcome u s y) path (outcome u s (held f) a (f .key-right) (subst (λ (y : PowersUp). Last u s y) (sym path) l))

@@ -43,4 +43,5 @@ module _ (u : Setup) (s : State) (inv : Holds u s) where
   told a (p, e) =
       let h : Handed = record { job = a .job; staging = a .staging } in
       let q : call u h ≡ a = λ i. record { sizes = sym p i; job = a .job; staging = a .staging } in
-      subst (λ (b : Advances). T (refused s (advanced-by b)) ⊎ (advance (s .ring) (s .fram) b .progress ≡ said (step u s (advanced-by b) .journal .draft))) q (told-call h (h .job .phase) refl (inv .doing h e))
+      subst (λ (b : Advances). T (refused s (advanced-by b)) ⊎ (advance (s .ring) (s .fram) b .progress ≡ said (step u s (advanced-by b) .journal .draft))) q
+      (told-call h (h .job .phase) refl (inv .doing h e))
