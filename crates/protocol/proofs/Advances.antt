@@ -14,6 +14,7 @@ use Rattle.octets.specs.Octets.{erased, part, put, blank}
 use Rattle.octets.specs.Limits.{slot-length}
 use Rattle.octets.proofs.Laws.{blank-erased, Written, length-put, length-part, getD-part, written-elsewhere, written-on}
 use Rattle.stops.specs.Stops.{first-of}
+use Rattle.ring.proofs.StoreLaws.{erased-is}
 use Rattle.ring.specs.Ring.{page-put, ring-wrong, page-before, page-erased}
 use Rattle.ring.proofs.RingLaws.{erase-pending}
 use Rattle.ring.proofs.TurnLaws.{before-laws}
@@ -150,11 +151,10 @@ pub erased-durable : (u : Setup) (s : State) (p : ℕ) → Holds u s → s .jour
     → p ≡ owed-page u s
     → (ring-wrong (u .sizes .pages) (u .sizes .slots) (page-erased (s .ring) (u .sizes .slots) p) ≡ false)
     × Durable-at u s (page-erased (s .ring) (u .sizes .slots) p) (s .fram) false
-unfolding page-erased
 erased-durable u s p inv o e =
     let d = subst (λ (b : Bool). Durable-at u s (s .ring) (s .fram) b) o (inv .durable) in
     let x = erase-durable (erased (slot-length * u .sizes .slots)) (length-replicate (slot-length * u .sizes .slots) 0xFF) d in
-    rw e (rw (blank-erased (slot-length * u .sizes .slots)) at x)
+    rw (erased-is, e) (rw (blank-erased (slot-length * u .sizes .slots)) at x)
 
 pub page-right : (u : Setup) (s : State) (p : ℕ) → Holds u s → p ≡ owed-page u s
     → leb (u .sizes .pages) p ≡ false

@@ -7,7 +7,7 @@ use mathlib.Core.List.{List, [], _∷_}
 use native.Mathlib.Omega.{arith}
 use lib.ListN.{length}
 use lib.Dec.{eqb, ltb, leb, T}
-use Rattle.stops.proofs.Laws.{neither}
+use Rattle.stops.proofs.Laws.{neither, passes}
 use Rattle.ring.specs.Ring.{ring-wrong, page-erased}
 use Rattle.checkpoint.specs.Checkpoint.{Checkpoint, empty-length}
 use Rattle.checkpoint.specs.Fram.{half-length}
@@ -16,7 +16,7 @@ use Rattle.protocol.specs.Calls.{Setup, advanced-by, Sizes, Advances}
 use Rattle.protocol.specs.Operations.{session-of, in-phase, phase-wrong, ended, recorded, store, advance, job-wrong, advance-stop, advance-by}
 use Rattle.protocol.specs.Journal.{Journal, Draft, Store, made, advanced, entered}
 use Rattle.protocol.specs.History.{State, Handed, step, moved, refused, is-stopped, Keeps, left-by}
-use Rattle.protocol.proofs.Facts.{no-fact, passed}
+use Rattle.protocol.proofs.Facts.{no-fact}
 use Rattle.protocol.proofs.Invariant.{draft-of, Durable-at, Erasing-after, Doing, Holds, Moving}
 use Rattle.protocol.proofs.Advances.{Moves, call, after, advance-stores, after-ended, doing-of, erased-durable, page-right, erasing-first, writing}
 use Rattle.protocol.proofs.Records.{session-is, more-known, more-match, recording}
@@ -109,7 +109,7 @@ phase-passes j z ring fram e =
 
 job-passes : (ring fram : List ℕ) (a : Advances) → advance-stop ring fram a ≡ none → job-wrong (a .job) (a .sizes) ring fram ≡ false
 unfolding advance-stop
-job-passes ring fram a e = passed _ _ _ (passed _ _ _ (passed _ _ _ (passed _ _ _ e .1) .1) .1) .0
+job-passes ring fram a e = passes _ e .1 .1 .1 .0
 
 done-stops : (u : Setup) (s : State) (h : Handed) → h .job .phase ≡ Done → (o : Option ℕ) → advance-stop (s .ring) (s .fram) (call u h) ≡ o
     → step u s (advanced-by (call u h)) ≡ s

@@ -11,7 +11,7 @@ use lib.ListN.{length}
 use borrow.Author.Tests.{eqb-true, not-false}
 use Rattle.octets.specs.Limits.{nonce-length, tag-length}
 use Rattle.octets.specs.Octets.{blank}
-use Rattle.stops.proofs.Laws.{neither}
+use Rattle.stops.proofs.Laws.{neither, passes}
 use Rattle.ring.specs.Ring.{Blank}
 use Rattle.ring.proofs.RingLaws.{read-blank}
 use Rattle.ring.proofs.FoundLaws.{found}
@@ -21,7 +21,6 @@ use Rattle.protocol.specs.Calls.{FirstSave, Setup, first-saved}
 use Rattle.protocol.specs.Operations.{key-wrong, nonce-wrong, tag-wrong, job-of, first-save-stop, first-checkpoint, first-save}
 use Rattle.protocol.specs.Journal.{entered, first-draft}
 use Rattle.protocol.specs.History.{State, step, Keeps, left-by, refused}
-use Rattle.protocol.proofs.Facts.{passed}
 use Rattle.protocol.proofs.Invariant.{Good, half-of, page-in, slot-in, Durable-at, Untouched, Holds}
 use Rattle.protocol.proofs.Reading.{reads}
 use Rattle.protocol.proofs.Starts.{started, start-holds, begun-stopped, begun-none, Parts, parts-pass, save-arguments, same-arguments}
@@ -38,16 +37,14 @@ record First-passes (u : Setup) (ring fram : List ℕ) (a : FirstSave) : Type 0 
 first-passes : (u : Setup) (ring fram : List ℕ) (a : FirstSave) → first-save-stop ring fram (first-call u a) ≡ none → First-passes u ring fram a
 unfolding first-save-stop
 first-passes u ring fram a e =
-    let e₁ = passed _ _ _ (passed _ _ _ e .1) .1 in
-    let sizes = neither (key-wrong (length (u .key)) || nonce-wrong (length (a .arguments .nonce))) (tag-wrong (length (a .starting-tag))) (passed _ _ _ e₁ .0) in
-    let e₂ = passed _ _ _ e₁ .1 in
-    let e₃ = passed _ _ _ e₂ .1 in
+    let p = passes _ e in
+    let lengths = neither (key-wrong (length (u .key)) || nonce-wrong (length (a .arguments .nonce))) (tag-wrong (length (a .starting-tag))) (p .1 .1 .0) in
     record {
       nonce-long = eqb-true (length (a .arguments .nonce)) nonce-length
-          (not-false _ (neither (key-wrong (length (u .key))) (nonce-wrong (length (a .arguments .nonce))) (sizes .0) .1));
-      tag-long = eqb-true (length (a .starting-tag)) tag-length (not-false _ (sizes .1));
-      parts = parts-pass (a .arguments .open-part) (a .arguments .secret) fram (a .arguments .staging) (passed _ _ _ e₂ .0);
-      ring-blank = not-false _ (passed _ _ _ e₃ .0);
+          (not-false _ (neither (key-wrong (length (u .key))) (nonce-wrong (length (a .arguments .nonce))) (lengths .0) .1));
+      tag-long = eqb-true (length (a .starting-tag)) tag-length (not-false _ (lengths .1));
+      parts = parts-pass (a .arguments .open-part) (a .arguments .secret) fram (a .arguments .staging) (p .1 .1 .1 .0);
+      ring-blank = not-false _ (p .1 .1 .1 .1 .0);
     }
 
 -- a ring that is blank has nothing recorded

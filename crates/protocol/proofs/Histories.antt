@@ -8,19 +8,20 @@ use mathlib.Core.List.{List, [], _∷_, _++_, List·Memᴰ, List·Memᴰ·head, 
 use native.Mathlib.Nat.{add-zero}
 use native.Mathlib.Omega.{arith}
 use lib.ListN.{length, length-replicate}
-use lib.Dec.{ltb, lit<}
+use lib.Dec.{lit<}
 use borrow.Author.Tests.{eq-eqb, le-ltb}
 use Rattle.octets.specs.Limits.{fram-limit, part-limit, restart-limit, key-length, nonce-length}
 use Rattle.octets.specs.Octets.{blank, put, number, bytes}
-use Rattle.octets.proofs.Laws.{same-refl}
 use Rattle.octets.proofs.Numbers.{length-bytes, number-bytes}
 use Rattle.stops.specs.Stops.{first-of}
+use Rattle.ring.proofs.StoreLaws.{is-newest}
 use Rattle.ring.specs.Ring.{At, record-of, newest-record, not-newest}
 use Rattle.ring.proofs.RingLaws.{page-of, slot-of}
 use Rattle.ring.proofs.FoundLaws.{found, not-blank, not-unreadable, pending-is}
+use Rattle.checkpoint.proofs.SealedLaws.{empty-passes}
 use Rattle.checkpoint.specs.Fram.{fram-wrong, half-length}
-use Rattle.checkpoint.specs.Checkpoint.{Checkpoint, part-wrong, sealed}
-use Rattle.checkpoint.proofs.FramLaws.{fram-sizes, two-halves}
+use Rattle.checkpoint.specs.Checkpoint.{Checkpoint, sealed, empty-length}
+use Rattle.checkpoint.proofs.FramLaws.{half-sizes}
 use Rattle.protocol.specs.Types.{Session, Save, PowerUp, Words}
 use Rattle.protocol.specs.Calls.{FirstSave, Saves, PowersUp, Setup, Event, first-saved, saved, powered-up}
 use Rattle.protocol.specs.Operations.{key-wrong, nonce-wrong, staging-wrong, parts-wrong, stale, job-of, first-checkpoint, first-save-stop, save-checkpoint, save-stop}
@@ -65,19 +66,16 @@ unfolding state-room
 length-state = length-replicate {A = ℕ} part-limit 0
 
 room : (fram : List ℕ) → fram-wrong fram ≡ false → half-length fram ≤ length staging-room
-unfolding half-length
-room fram e = rw length-staging (let z = fram-sizes fram e in omega arith)
+room fram e = rw length-staging (half-sizes fram e .1)
 
 module _ (u : Setup) (key-long : length (u .key) ≡ key-length) (i : ℕ) where
   sizes-pass : key-wrong (length (u .key)) || nonce-wrong (length (bytes nonce-length i)) ≡ false
   sizes-pass = rw (eq-eqb (length (u .key)) key-length key-long, eq-eqb (length (bytes nonce-length i)) nonce-length (length-bytes nonce-length i))
 
 parts-pass : (fram : List ℕ) → fram-wrong fram ≡ false → parts-wrong [] [] fram || staging-wrong staging-room fram ≡ false
-unfolding parts-wrong part-wrong staging-wrong
+unfolding parts-wrong staging-wrong
 parts-pass fram e =
-    let z = fram-sizes fram e in
-    let l : ltb (half-length fram) 44 ≡ false = le-ltb (half-length fram) 44 (omega (arith, two-halves fram e)) in
-    rw l (le-ltb (length staging-room) (half-length fram) (room fram e))
+    rw (empty-passes, le-ltb (half-length fram) empty-length (half-sizes fram e .0)) (le-ltb (length staging-room) (half-length fram) (room fram e))
 
 -- ---- the first save
 
@@ -183,10 +181,9 @@ module _ (u : Setup) (key-long : length (u .key) ≡ key-length) (s : State) (n 
 
 found-newest : (ring : List ℕ) (pages slots count : ℕ) (owed : Bool) (r : List ℕ) → owed ≡ false → newest-record ring slots (found pages slots count owed) ≡ r
     → not-newest ring slots (found pages slots count owed) (page-of pages slots count) (slot-of slots count) r ≡ false
-unfolding not-newest
 found-newest ring pages slots count true r o e = no-fact o
 found-newest ring pages slots count false r o e =
-    rw (e, same-refl r, eq-eqb (page-of pages slots count) (page-of pages slots count) refl, eq-eqb (slot-of slots count) (slot-of slots count) refl)
+    is-newest ring slots (found pages slots count false) (page-of pages slots count) (slot-of slots count) r refl refl (sym e)
 
 module _ (u : Setup) (key-long : length (u .key) ≡ key-length) (s : State) (n k : ℕ) (x : After u s n k) (h : n < 2 ^ 96) where
   abbrev session-here : Session

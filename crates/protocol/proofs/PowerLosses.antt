@@ -7,11 +7,11 @@ use mathlib.Core.Option.{Option, none, some}
 use mathlib.Core.List.{List, _∷_, _++_, List·Memᴰ}
 use native.Mathlib.Omega.{arith}
 use native.Mathlib.Nat.{mod-lt}
-use lib.ListN.{length, take, drop, replicate, take-append-drop}
-use lib.Seq.{drop-drop}
+use lib.ListN.{length, take, replicate}
 use Rattle.octets.specs.Limits.{slot-length, nonce-length}
-use Rattle.octets.specs.Octets.{part, put, blank, erased}
-use Rattle.octets.proofs.Laws.{length-put, length-part, is-erased, blank-erased}
+use Rattle.octets.specs.Octets.{put, blank, erased}
+use Rattle.octets.proofs.Laws.{length-put, blank-erased}
+use Rattle.ring.proofs.StoreLaws.{put-blank}
 use Rattle.ring.specs.Ring.{slot-at, ring-wrong, record-of, page-put, record-put}
 use Rattle.ring.proofs.SizeLaws.{Sized, sized, slot-ends}
 use Rattle.ring.proofs.RecordLaws.{length-record, is-record-of, record-used}
@@ -88,20 +88,6 @@ unfolding lost-into whole
 lost-no-record j c origin rest left d e =
     ap (λ (x : Option Draft). lost-into j x left) d
     ∙ ap (λ (x : Bool). dropped (cond (not x) (made j (draft-of c origin (record-slot ∷ rest)) (record-slot ∷ rest)) j)) e
-
-put-part : (xs : List ℕ) (i n : ℕ) → i + n ≤ length xs → put xs i (part xs i n) ≡ xs
-unfolding put part
-put-part xs i n l =
-    rw (length-part xs i n l, ← (drop-drop n i xs), take-append-drop n (drop i xs)) (take-append-drop i xs)
-
--- blank bytes over a blank slot
-put-blank : (ring : List ℕ) (slots page slot : ℕ) → slot-length * (page * slots + slot) + slot-length ≤ length ring → blank (slot-at ring slots page slot) ≡ true
-    → record-put ring slots page slot (erased slot-length) ≡ ring
-unfolding slot-at record-put
-put-blank ring slots page slot l b =
-    let off = slot-length * (page * slots + slot) in
-    let e : part ring off slot-length ≡ erased slot-length = is-erased (part ring off slot-length) b ∙ ap erased (length-part ring off slot-length l) in
-    subst (λ (y : List ℕ). put ring off y ≡ ring) e (put-part ring off slot-length l)
 
 module _ (u : Setup) (s : State) (inv : Holds u s) (h : Handed) (left : List ℕ) where
   -- the state after a power loss in the store of phase `p`

@@ -12,7 +12,8 @@ use lib.Dec.{eqb, ltb}
 use borrow.Author.Tests.{lt-ltb}
 use Rattle.octets.specs.Limits.{slot-length, nonce-length}
 use Rattle.octets.specs.Octets.{blank}
-use Rattle.octets.proofs.Laws.{blank-part, Written}
+use Rattle.octets.proofs.Laws.{Written}
+use Rattle.ring.proofs.StoreLaws.{slot-blank, before-first}
 use Rattle.ring.specs.Ring.{record-put, page-at, slot-at, is-record, ring-wrong, page-before, record-of}
 use Rattle.ring.proofs.RingLaws.{Ringed, page-of, slot-of, last, joined, target-is-blank, record-next, record-first}
 use Rattle.ring.proofs.SizeLaws.{sized}
@@ -87,14 +88,13 @@ module _ (pages slots : ℕ) (ring : List ℕ) (count : ℕ) (r : List ℕ) (P :
 
 first-ring-at : (pages slots : ℕ) (ring r : List ℕ) (P : List ℕ → Type 0) → length r ≡ slot-length → is-record r ≡ true → P r
     → ring-wrong pages slots ring ≡ false → blank ring ≡ true → New-ring pages slots ring 0 r P
-unfolding page-before
 first-ring-at pages slots ring r P long is p w b =
     record {
       recs = r ∷ [];
       ringed = rw (page-0, slot-0) x;
       latest = refl;
       known = λ q m. subst P (sym (List·Memᴰ·eq-of-singleton m)) p;
-      test = rw (page-0, slot-0, last-page);
+      test = rw (page-0, slot-0, before-first pages, last-page);
     }
   where
     page-0 : page-of pages slots 1 ≡ 0
@@ -140,15 +140,11 @@ module _ {u : Setup} {ring fram : List ℕ} {nonces : List (List ℕ)} {entry : 
       → erase-test (u .sizes .pages) (u .sizes .slots) (record-at (u .sizes .pages) (u .sizes .slots) ring count (record-of (c .nonce) (half-of (count + 1)))) count ≡ full (u .sizes .slots) count
   record-test d = new-ring d .test
 
-blank-slot : (ring : List ℕ) (slots page slot : ℕ) → blank ring ≡ true → blank (slot-at ring slots page slot) ≡ true
-unfolding slot-at
-blank-slot ring slots page slot b = blank-part ring (slot-length * (page * slots + slot)) slot-length b
-
 -- the slot of the next record is blank
 pub next-slot-blank : {u : Setup} {ring fram : List ℕ} {nonces : List (List ℕ)} {entry : Option Checkpoint} {count power-ups : ℕ} → Durable u ring fram nonces entry count false power-ups
     → blank (slot-at ring (u .sizes .slots) (page-in u (count + 1)) (slot-in u (count + 1))) ≡ true
 next-slot-blank {u} {ring} {count = count} (inl x) =
-    blank-slot ring (u .sizes .slots) (page-in u (count + 1)) (slot-in u (count + 1)) (x .ring-blank)
+    slot-blank ring (u .sizes .slots) (page-in u (count + 1)) (slot-in u (count + 1)) (x .ring-blank)
 next-slot-blank {u} {ring} {count = count} (inr (c, x)) = target-is-blank (u .sizes .pages) (u .sizes .slots) ring count (x .recs) (x .ringed)
 
 -- ---- the sessions with the one handed out at the end

@@ -8,12 +8,13 @@ use mathlib.Core.List.{List, _∷_, _++_, List·Memᴰ, List·Memᴰ·head, List
 use native.Mathlib.Omega.{arith}
 use lib.ListN.{length, replicate}
 use lib.Dec.{eqb, ltb}
-use borrow.Author.Tests.{eqb-true, ltb-false, not-false}
+use borrow.Author.Tests.{ltb-false}
 use Rattle.octets.specs.Octets.{put}
 use Rattle.octets.proofs.Laws.{length-put, put-within}
 use Rattle.octets.specs.Limits.{part-limit}
 use Rattle.stops.proofs.Laws.{neither}
-use Rattle.checkpoint.specs.Checkpoint.{Checkpoint, sealed, sealed-length, part-wrong}
+use Rattle.checkpoint.proofs.SealedLaws.{part-sizes}
+use Rattle.checkpoint.specs.Checkpoint.{Checkpoint, sealed, sealed-length}
 use Rattle.checkpoint.specs.Half.{stored}
 use Rattle.checkpoint.specs.Fram.{half-length}
 use Rattle.protocol.specs.Types.{Origin, Job, Phase, EraseFirst, Words}
@@ -175,12 +176,6 @@ module _ (s : State) (o : Option ℕ) (key : List ℕ) (c : Checkpoint) (job : J
 
 -- ---- parts that pass
 
-pub part-passes : (p : List ℕ) → part-wrong p ≡ false → (length p % 4 ≡ 0) × (length p ≤ part-limit)
-unfolding part-wrong
-part-passes p e =
-    let x = neither _ _ e in
-    (eqb-true (length p % 4) 0 (not-false _ (x .0)), ltb-false part-limit (length p) (x .1))
-
 pub record Parts (open-part secret : List ℕ) (half staging : ℕ) : Type 0 where
   pub open-passes : (length open-part % 4 ≡ 0) × (length open-part ≤ part-limit)
   pub secret-passes : (length secret % 4 ≡ 0) × (length secret ≤ part-limit)
@@ -195,8 +190,8 @@ parts-pass open-part secret fram staging e =
     let b = neither _ _ (a .0) in
     let c = neither _ _ (b .0) in
     record {
-      open-passes = part-passes open-part (c .0);
-      secret-passes = part-passes secret (c .1);
+      open-passes = part-sizes open-part (c .0);
+      secret-passes = part-sizes secret (c .1);
       fits = ltb-false (half-length fram) (sealed-length (length open-part) (length secret)) (b .1);
       staging-long = ltb-false (length staging) (half-length fram) (a .1);
     }
