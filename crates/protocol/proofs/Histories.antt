@@ -1,5 +1,5 @@
 -- Every unit has the lists of specs/Histories.antt.
-use Prim.Native.Nat.{ℕ, zero, suc, _+_, _-_, _/_, _%_, _^_, _≤_, _<_}
+use Prim.Native.Nat.{ℕ, zero, suc, _+_, _*_, _-_, _/_, _%_, _^_, _≤_, _<_}
 use mathlib.Core.Path.{_≡_, refl, sym, ap, subst, subst₂, _∙_}
 use mathlib.Core.Bool.{Bool, true, false, _||_}
 use mathlib.Core.Logic.{_⊎_, inl, inr}
@@ -7,15 +7,16 @@ use mathlib.Core.Option.{none, some}
 use mathlib.Core.List.{List, [], _∷_, _++_, List·Memᴰ, List·Memᴰ·head, List·Memᴰ·cases-cons, List·Memᴰ·not-nil}
 use native.Mathlib.Nat.{add-zero}
 use native.Mathlib.Omega.{arith}
-use lib.ListN.{length, length-replicate}
-use lib.Dec.{lit<}
+use lib.ListN.{replicate, length, length-replicate}
+use lib.Dec.{lit<, lit≤}
 use borrow.Author.Tests.{eq-eqb, le-ltb}
-use Rattle.octets.specs.Limits.{fram-limit, part-limit, restart-limit, key-length, nonce-length}
-use Rattle.octets.specs.Octets.{blank, put, number, bytes}
+use Rattle.octets.specs.Limits.{slot-length, fram-least, fram-limit, part-limit, restart-limit, key-length, nonce-length}
+use Rattle.octets.specs.Octets.{erased, blank, put, number, bytes}
+use Rattle.octets.proofs.Laws.{blank-erased}
 use Rattle.octets.proofs.Numbers.{length-bytes, number-bytes}
 use Rattle.stops.specs.Stops.{first-of}
 use Rattle.ring.proofs.StoreLaws.{is-newest}
-use Rattle.ring.specs.Ring.{At, record-of, newest-record, not-newest}
+use Rattle.ring.specs.Ring.{ring-wrong, At, record-of, newest-record, not-newest}
 use Rattle.ring.proofs.RingLaws.{page-of, slot-of}
 use Rattle.ring.proofs.FoundLaws.{found, not-blank, not-unreadable, pending-is}
 use Rattle.checkpoint.proofs.SealedLaws.{empty-passes}
@@ -28,7 +29,7 @@ use Rattle.protocol.specs.Operations.{key-wrong, nonce-wrong, staging-wr
 use Rattle.protocol.specs.Journal.{drafted, stores-of, power-up-draft, empty}
 use Rattle.protocol.specs.History.{State, fresh, run, Keeps, Allowed}
 use Rattle.protocol.specs.Recovery.{Fits, Last}
-use Rattle.protocol.specs.Histories.{to-its-end, staging-room, state-room, numbered-first, numbered-save, numbered-power-up, with-session, saves-on, power-ups-on, history, Reachable}
+use Rattle.protocol.specs.Histories.{smallest, bench-state, Examples, to-its-end, staging-room, state-room, numbered-first, numbered-save, numbered-power-up, with-session, saves-on, power-ups-on, history, Reachable}
 use Rattle.protocol.proofs.Facts.{no-fact}
 use Rattle.protocol.proofs.Invariant.{half-of, session-in, Holds}
 use Rattle.protocol.proofs.Reading.{reads, record-found, new-nonce}
@@ -320,3 +321,14 @@ reachable u ring fram b f n k few h = record {
 
     r : Row u s events (n + 1 + k) k
     r = row-more u s first _ (n + 1 + k) k (first-whole u ring fram b f .allowed) (row-more u (run u s first) saves _ (n + 1 + k) k (rs .allowed) rp)
+
+smallest-fits : Fits smallest (erased (slot-length * 6)) (replicate fram-least 0)
+unfolding smallest ring-wrong fram-wrong
+smallest-fits = record { ring-right = refl; fram-right = refl; key-right = refl }
+
+pub examples : Examples
+unfolding Examples bench-state Reachable
+examples = (
+  reachable smallest (erased (slot-length * 6)) (replicate fram-least 0) (blank-erased (slot-length * 6)) smallest-fits 0 8 (lit≤ tt) (lit< tt),
+  reachable smallest (erased (slot-length * 6)) (replicate fram-least 0) (blank-erased (slot-length * 6)) smallest-fits 6 0 (lit≤ tt) (lit< tt),
+)
