@@ -29,7 +29,7 @@ use Rattle.protocol.specs.Operations.{staging-wrong, session-of, in-phas
 use Rattle.protocol.specs.Journal.{entered, Journal, Draft, Store, erase, word, record-slot, made, advanced}
 use Rattle.protocol.specs.History.{State, Handed, moved, step, left-by, refused, is-stopped}
 use Rattle.protocol.proofs.Facts.{no-fact}
-use Rattle.protocol.proofs.Invariant.{draft-of, length-good, sealed-fits, half-of, page-in, owed-page, Durable-at, Durable, Working, Before, last-erase, Stored, Erasing-first, Writing, Doing, Holds, answer-of, Moving}
+use Rattle.protocol.proofs.Invariant.{draft-of, length-good, sealed-fits, half-of, page-in, owed-page, DurableAt, Durable, Working, Before, last-erase, Stored, ErasingFirst, Writing, Doing, Holds, answer-of, Moving}
 
 -- the call of an advance with the job handed out
 abbrev pub call : Setup → Handed → Advances
@@ -150,9 +150,9 @@ erase-durable {u} {ring} {count = count} left l (inr (c, r)) =
 pub erased-durable : (u : Setup) (s : State) (p : ℕ) → Holds u s → s .journal .owed ≡ true
     → p ≡ owed-page u s
     → (ring-wrong (u .sizes .pages) (u .sizes .slots) (page-erased (s .ring) (u .sizes .slots) p) ≡ false)
-    × Durable-at u s (page-erased (s .ring) (u .sizes .slots) p) (s .fram) false
+    × DurableAt u s (page-erased (s .ring) (u .sizes .slots) p) (s .fram) false
 erased-durable u s p inv o e =
-    let d = subst (λ (b : Bool). Durable-at u s (s .ring) (s .fram) b) o (inv .durable) in
+    let d = subst (λ (b : Bool). DurableAt u s (s .ring) (s .fram) b) o (inv .durable) in
     let x = erase-durable (erased (slot-length * u .sizes .slots)) (length-replicate (slot-length * u .sizes .slots) 0xFF) d in
     rw (erased-is, e) (rw (blank-erased (slot-length * u .sizes .slots)) at x)
 
@@ -163,7 +163,7 @@ page-right u s p inv e =
     lt-leb (u .sizes .pages) p (rw e (before-laws (u .sizes .pages) (page-in u (s .journal .count)) (z .some-pages) (mod-lt _ (omega arith)) .in-ring))
 
 module _ (u : Setup) (s : State) (h : Handed) (inv : Holds u s) where
-  pub erasing-first : (p : ℕ) → h .job .phase ≡ EraseFirst p → (x : Erasing-first u s h p)
+  pub erasing-first : (p : ℕ) → h .job .phase ≡ EraseFirst p → (x : ErasingFirst u s h p)
       → Moves u s h
       (x .before .working .c) (x .before .working .origin) (word ∷ (replicate (x .left) word ++ record-slot ∷ last-erase u s))
   unfolding in-phase advanced made store phase-wrong working-on
@@ -213,7 +213,7 @@ module _ (u : Setup) (s : State) (h : Handed) (inv : Holds u s) where
       t = after s h (Words 0) ring (s .fram) (s .sessions) j
 
       d : (ring-wrong (u .sizes .pages) (u .sizes .slots) ring ≡ false)
-          × Durable-at u s ring (s .fram) false
+          × DurableAt u s ring (s .fram) false
       d = erased-durable u s p inv (x .owed) (x .page-is)
 
       writing : Writing u t k 0
@@ -330,7 +330,7 @@ module _ {u : Setup} {s : State} {h : Handed} {rest : List Store} (inv : Holds u
   word-kept = length-put (s .fram) (h .job .half * half-length (s .fram) + 4 * w) (part (h .staging) (4 * w) 4)
       (omega (arith, word-long, sealed-within, half-within (s .fram) (h .job .half) (inv .fram-right) (rw (x .working .half-is) (omega arith))))
 
-  word-durable : Durable-at u s (s .ring) (stored-word (s .fram) (h .staging) (h .job) w) (s .journal .owed)
+  word-durable : DurableAt u s (s .ring) (stored-word (s .fram) (h .staging) (h .job) w) (s .journal .owed)
   unfolding stored-word
   word-durable =
       let e = x .working .half-is in

@@ -17,12 +17,12 @@ use Rattle.protocol.specs.Operations.{session-of, in-phase, phase-wrong,
 use Rattle.protocol.specs.Journal.{Journal, Draft, Store, made, advanced, entered}
 use Rattle.protocol.specs.History.{State, Handed, step, moved, refused, is-stopped, Keeps, left-by}
 use Rattle.protocol.proofs.Facts.{no-fact}
-use Rattle.protocol.proofs.Invariant.{draft-of, Durable-at, Erasing-after, Doing, Holds, Moving}
+use Rattle.protocol.proofs.Invariant.{draft-of, DurableAt, ErasingAfter, Doing, Holds, Moving}
 use Rattle.protocol.proofs.Advances.{Moves, call, after, advance-stores, after-ended, doing-of, erased-durable, page-right, erasing-first, writing}
 use Rattle.protocol.proofs.Records.{session-is, more-known, more-match, recording}
 
 module _ (u : Setup) (s : State) (h : Handed) (inv : Holds u s) where
-  pub erasing-after : (p : ℕ) → h .job .phase ≡ EraseAfter p → (x : Erasing-after u s h p)
+  pub erasing-after : (p : ℕ) → h .job .phase ≡ EraseAfter p → (x : ErasingAfter u s h p)
       → Moves u s h (x .working .c) (x .working .origin) []
   unfolding in-phase advanced made store phase-wrong
   erasing-after p e x =
@@ -63,7 +63,7 @@ module _ (u : Setup) (s : State) (h : Handed) (inv : Holds u s) where
       t = after s h Done ring (s .fram) (session-of (h .job) ∷ s .sessions) j
 
       d : (ring-wrong (u .sizes .pages) (u .sizes .slots) ring ≡ false)
-          × Durable-at u s ring (s .fram) false
+          × DurableAt u s ring (s .fram) false
       d = erased-durable u s p inv (x .owed) (x .page-is)
 
 same-draft : (o : Option Draft) (d e : Draft) → o ≡ some d → o ≡ some e → d ≡ e

@@ -21,20 +21,20 @@ use Rattle.protocol.specs.Calls.{FirstSave, Setup, first-saved}
 use Rattle.protocol.specs.Operations.{key-wrong, nonce-wrong, tag-wrong, job-of, first-save-stop, first-checkpoint, first-save}
 use Rattle.protocol.specs.Journal.{entered, first-draft}
 use Rattle.protocol.specs.History.{State, step, Keeps, left-by, refused}
-use Rattle.protocol.proofs.Invariant.{Good, half-of, page-in, slot-in, Durable-at, Untouched, Holds}
+use Rattle.protocol.proofs.Invariant.{Good, half-of, page-in, slot-in, DurableAt, Untouched, Holds}
 use Rattle.protocol.proofs.Reading.{reads}
 use Rattle.protocol.proofs.Starts.{started, start-holds, begun-stopped, begun-none, Parts, parts-pass, save-arguments, same-arguments}
 
 abbrev pub first-call : Setup → FirstSave → FirstSave
 first-call u a = record { arguments = save-arguments u (a .arguments); starting-tag = a .starting-tag }
 
-record First-passes (u : Setup) (ring fram : List ℕ) (a : FirstSave) : Type 0 where
+record FirstPasses (u : Setup) (ring fram : List ℕ) (a : FirstSave) : Type 0 where
   nonce-long : length (a .arguments .nonce) ≡ nonce-length
   tag-long : length (a .starting-tag) ≡ tag-length
   parts : Parts (a .arguments .open-part) (a .arguments .secret) (half-length fram) (length (a .arguments .staging))
   ring-blank : blank ring ≡ true
 
-first-passes : (u : Setup) (ring fram : List ℕ) (a : FirstSave) → first-save-stop ring fram (first-call u a) ≡ none → First-passes u ring fram a
+first-passes : (u : Setup) (ring fram : List ℕ) (a : FirstSave) → first-save-stop ring fram (first-call u a) ≡ none → FirstPasses u ring fram a
 unfolding first-save-stop
 first-passes u ring fram a e =
     let p = passes _ e in
@@ -56,7 +56,7 @@ blank-untouched u s inv b = go (inv .durable)
     different true e = let z : _≡_ {A = ℕ} 0 1 = cc in omega arith
     different false e = let z : _≡_ {A = ℕ} 0 1 = cc in omega arith
 
-    go : Durable-at u s (s .ring) (s .fram) (s .journal .owed)
+    go : DurableAt u s (s .ring) (s .fram) (s .journal .owed)
         → Untouched (s .ring) (s .journal .entry) (s .journal .count) (s .journal .owed) (s .journal .power-ups)
     go (inl x) = x
     go (inr (c, r)) = absurd (different (s .journal .owed) (sym (read-blank (u .sizes .pages) (u .sizes .slots) (s .ring) (inv .ring-right) b)
@@ -70,7 +70,7 @@ module _ (u : Setup) (s : State) (inv : Holds u s) (a : FirstSave) (new : List·
       start-holds u s inv (first-checkpoint (first-call u a)) Save (Words 0) 0 0 0 (a .arguments .staging) good new (p .parts .staging-long)
       half-is page-is slot-is 0 refl (inl (x .none-owed, refl))
     where
-      p : First-passes u (s .ring) (s .fram) a
+      p : FirstPasses u (s .ring) (s .fram) a
       p = first-passes u (s .ring) (s .fram) a e
 
       x : Untouched (s .ring) (s .journal .entry) (s .journal .count) (s .journal .owed) (s .journal .power-ups)

@@ -18,7 +18,7 @@ use Rattle.protocol.specs.Journal.{Journal, Store, word, record-slot, er
 use Rattle.protocol.specs.History.{State, Handed, step, run, refused, is-stopped, Keeps}
 use Rattle.protocol.specs.Recovery.{is-advance, Uninterrupted, answered, answers, with-handed, advances-of, Stands}
 use Rattle.protocol.proofs.Facts.{T-true}
-use Rattle.protocol.proofs.Invariant.{draft-of, page-in, slot-in, Durable-at, Recorded, Holds, answer-of, Ended, Moving}
+use Rattle.protocol.proofs.Invariant.{draft-of, page-in, slot-in, DurableAt, Recorded, Holds, answer-of, Ended, Moving}
 use Rattle.protocol.proofs.Reading.{record-found, reads, nonce-found, newest-half-is}
 use Rattle.protocol.proofs.Refused.{T→true, step-refused}
 use Rattle.protocol.proofs.Advances.{call}
@@ -50,7 +50,7 @@ stands u t new inv x = go (inv .durable)
     same-entry : (c : Checkpoint) → t .journal .entry ≡ some c → c ≡ new
     same-entry c p = let e = x .entry in cc
 
-    go : Durable-at u t (t .ring) (t .fram) (t .journal .owed) → Stands u t new
+    go : DurableAt u t (t .ring) (t .fram) (t .journal .owed) → Stands u t new
     go (inl y) = absurd (let p = y .no-entry in let e = x .entry in let z : _≡_ {A = ℕ} 0 1 = cc in omega arith)
     go (inr (c, r)) = recorded-stands c (subst (λ (b : Bool). Recorded u (t .ring) (t .fram) (t .nonces) (t .journal .entry) (t .journal .count) b (t .journal .power-ups) c) (x .owed) r)
         (same-entry c (r .entry-is)) (subst (λ (y : Checkpoint). Ended u t y) (sym (same-entry c (r .entry-is))) x)

@@ -23,7 +23,7 @@ use Rattle.protocol.specs.Calls.{Setup}
 use Rattle.protocol.specs.Operations.{newest-half, look-stop, look-by, look, stretch-by, open-stretch, stretch-of}
 use Rattle.protocol.specs.History.{State}
 use Rattle.protocol.specs.Recovery.{looks, Seen}
-use Rattle.protocol.proofs.Invariant.{Durable-at, Holds}
+use Rattle.protocol.proofs.Invariant.{DurableAt, Holds}
 use Rattle.protocol.proofs.Reading.{reads, head-found, tag-found, restarts-found, newest-half-is, behind}
 use Rattle.protocol.proofs.PowerUps.{Entry}
 
@@ -79,7 +79,7 @@ module _ (u : Setup) (s : State) (inv : Holds u s) (key-long : length (u .key) �
   unfolding look look-by
   seen = go (inv .durable)
     where
-      go : Durable-at u s (s .ring) (s .fram) (s .journal .owed) → Seen u s
+      go : DurableAt u s (s .ring) (s .fram) (s .journal .owed) → Seen u s
       go (inl x) = record {
         nothing = λ q. rw (look-blank (x .ring-blank));
         restarts = λ c q. absurd (let p = x .no-entry in let z : _≡_ {A = ℕ} 0 1 = cc in omega arith);

@@ -23,7 +23,7 @@ use Rattle.protocol.specs.Calls.{Setup, PowerLoss, lost-in-store}
 use Rattle.protocol.specs.Operations.{job-record, recorded}
 use Rattle.protocol.specs.Journal.{entered, lost-into, Journal, Draft, Store, erase, word, record-slot, erase-if, to-come, made, dropped, whole}
 use Rattle.protocol.specs.History.{State, Handed, broken-ring, broken-fram, broken, step, Left, Keeps, left-by}
-use Rattle.protocol.proofs.Invariant.{draft-of, sealed-fits, half-of, owed-page, Durable-at, Recorded, Durable, Working, last-erase, Writing, Recording, Doing, Holds}
+use Rattle.protocol.proofs.Invariant.{draft-of, sealed-fits, half-of, owed-page, DurableAt, Recorded, Durable, Working, last-erase, Writing, Recording, Doing, Holds}
 use Rattle.protocol.proofs.Advances.{erase-durable, fram-durable}
 use Rattle.protocol.proofs.Records.{recorded-durable, recorded-is, none-match, record-at, full, next-slot-blank, owing}
 
@@ -136,7 +136,7 @@ module _ (u : Setup) (s : State) (inv : Holds u s) (h : Handed) (left : List ℕ
           × Durable u (page-put (s .ring) (u .sizes .slots) (owed-page u s) left) (s .fram) (s .nonces)
           (s .journal .entry) (s .journal .count) (not (blank left)) (s .journal .power-ups)
       x = erase-durable left l
-          (subst (λ (b : Bool). Durable-at u s (s .ring) (s .fram) b) o (inv .durable))
+          (subst (λ (b : Bool). DurableAt u s (s .ring) (s .fram) b) o (inv .durable))
 
   loss-in-word : (w : ℕ) → Writing u s h w → length left ≡ 4
       → Holds u (record {
@@ -169,7 +169,7 @@ module _ (u : Setup) (s : State) (inv : Holds u s) (h : Handed) (left : List ℕ
       same-half : h .job .half * half-length (s .fram) ≡ half-of (s .journal .count + 1) * half-length (s .fram)
       same-half = ap (λ (y : ℕ). y * half-length (s .fram)) (k .half-is)
 
-      durable : Durable-at u s (s .ring) fram (s .journal .owed)
+      durable : DurableAt u s (s .ring) fram (s .journal .owed)
       durable = fram-durable left (h .job .half * half-length (s .fram) + 4 * w) (inv .fram-right) (omega (arith, same-half)) (omega (arith, same-half, long, d .left-is)) (inv .durable)
 
   loss-in-record : (d : Recording u s h) → (left ≡ job-record (h .job)) ⊎ (left ≡ erased slot-length)

@@ -124,13 +124,13 @@ module _ (u : Setup) (s : State) (inv : Holds u s) (a : PowersUp) (c : Checkpoin
 
 -- ---- the conditions
 
-record Power-passes (u : Setup) (ring fram : List ℕ) (a : PowersUp) : Type 0 where
+record PowerUpPasses (u : Setup) (ring fram : List ℕ) (a : PowersUp) : Type 0 where
   nonce-long : length (a .nonce) ≡ nonce-length
   staging-long : half-length fram ≤ length (a .staging)
   in-use : is-blank (read-ring ring (u .sizes .pages) (u .sizes .slots)) ≡ false
   few : eqb (stored-restarts (newest-half ring fram (u .sizes .slots) (read-ring ring (u .sizes .pages) (u .sizes .slots)))) restart-limit ≡ false
 
-power-passes : (u : Setup) (ring fram : List ℕ) (a : PowersUp) → power-up-stop ring fram (power-call u a) ≡ none → Power-passes u ring fram a
+power-passes : (u : Setup) (ring fram : List ℕ) (a : PowersUp) → power-up-stop ring fram (power-call u a) ≡ none → PowerUpPasses u ring fram a
 unfolding power-up-stop staging-wrong
 power-passes u ring fram a e =
     let p = passes _ e in

@@ -27,7 +27,7 @@ use Rattle.protocol.specs.Operations.{Moved, job-record, session-of, in-
 use Rattle.protocol.specs.Journal.{Journal, Draft, Store, erase, erase-if, to-come, made, advanced}
 use Rattle.protocol.specs.History.{State, Handed}
 use Rattle.protocol.proofs.Facts.{no-fact}
-use Rattle.protocol.proofs.Invariant.{draft-of, Good, session-in, half-of, page-in, slot-in, Durable-at, Recorded, Durable, Working, last-erase, Recording, Holds, Moving}
+use Rattle.protocol.proofs.Invariant.{draft-of, Good, session-in, half-of, page-in, slot-in, DurableAt, Recorded, Durable, Working, last-erase, Recording, Holds, Moving}
 use Rattle.protocol.proofs.Advances.{Moves, call, after, advance-stores, after-going, after-ended, working-on, doing-of}
 
 last-snoc : (rs : List (List ℕ)) (r : List ℕ) → last (rs ++ r ∷ []) ≡ r
@@ -60,7 +60,7 @@ abbrev pub erase-test : ℕ → ℕ → List ℕ → ℕ → Bool
 erase-test pages slots ring count =
     eqb (slot-of slots (count + 1)) 0 && not (blank (page-at ring slots (page-before pages (page-of pages slots (count + 1)))))
 
-pub record New-ring (pages slots : ℕ) (ring : List ℕ) (count : ℕ) (r : List ℕ) (P : List ℕ → Type 0) : Type 0 where
+pub record NewRing (pages slots : ℕ) (ring : List ℕ) (count : ℕ) (r : List ℕ) (P : List ℕ → Type 0) : Type 0 where
   pub recs : List (List ℕ)
   pub ringed : Ringed pages slots (record-at pages slots ring count r) (count + 1) (full slots count) recs
   pub latest : last recs ≡ r
@@ -72,7 +72,7 @@ and-test true b c e f = rw (f (sym e)) e
 and-test false b c e f = e
 
 module _ (pages slots : ℕ) (ring : List ℕ) (count : ℕ) (r : List ℕ) (P : List ℕ → Type 0) (long : length r ≡ slot-length) (is : is-record r ≡ true) (p : P r) where
-  pub next-ring : (recs : List (List ℕ)) → Ringed pages slots ring count false recs → ((q : List ℕ) → List·Memᴰ q recs → P q) → New-ring pages slots ring count r P
+  pub next-ring : (recs : List (List ℕ)) → Ringed pages slots ring count false recs → ((q : List ℕ) → List·Memᴰ q recs → P q) → NewRing pages slots ring count r P
   next-ring recs h f =
       let some-before : ltb 0 count ≡ true = lt-ltb 0 count (h .some-record) in
       let x = record-next pages slots ring count recs r h long is in
@@ -87,7 +87,7 @@ module _ (pages slots : ℕ) (ring : List ℕ) (count : ℕ) (r : List ℕ) (P :
       }
 
 first-ring-at : (pages slots : ℕ) (ring r : List ℕ) (P : List ℕ → Type 0) → length r ≡ slot-length → is-record r ≡ true → P r
-    → ring-wrong pages slots ring ≡ false → blank ring ≡ true → New-ring pages slots ring 0 r P
+    → ring-wrong pages slots ring ≡ false → blank ring ≡ true → NewRing pages slots ring 0 r P
 first-ring-at pages slots ring r P long is p w b =
     record {
       recs = r ∷ [];
@@ -112,15 +112,15 @@ first-ring-at pages slots ring r P long is p w b =
         x .others (pages - 1) (omega arith) (λ e. omega (arith, e, page-0)) (λ y. no-fact (sym (y .1)))
 
 pub first-ring : (pages slots : ℕ) (ring : List ℕ) (count : ℕ) (r : List ℕ) (P : List ℕ → Type 0) → length r ≡ slot-length → is-record r ≡ true → P r
-    → count ≡ 0 → ring-wrong pages slots ring ≡ false → blank ring ≡ true → New-ring pages slots ring count r P
-first-ring pages slots ring count r P long is p e w b = subst (λ (n : ℕ). New-ring pages slots ring n r P) (sym e) (first-ring-at pages slots ring r P long is p w b)
+    → count ≡ 0 → ring-wrong pages slots ring ≡ false → blank ring ≡ true → NewRing pages slots ring count r P
+first-ring pages slots ring count r P long is p e w b = subst (λ (n : ℕ). NewRing pages slots ring n r P) (sym e) (first-ring-at pages slots ring r P long is p w b)
 
 -- ---- the draft's record
 
 module _ {u : Setup} {ring fram : List ℕ} {nonces : List (List ℕ)} {entry : Option Checkpoint} {count power-ups : ℕ} {c : Checkpoint}
     (right : ring-wrong (u .sizes .pages) (u .sizes .slots) ring ≡ false) (good : Good c (half-length fram)) (mine : List·Memᴰ (c .nonce) nonces) where
   new-ring : Durable u ring fram nonces entry count false power-ups
-      → New-ring (u .sizes .pages) (u .sizes .slots) ring count (record-of (c .nonce) (half-of (count + 1))) (λ (r : List ℕ). List·Memᴰ (take nonce-length r) nonces)
+      → NewRing (u .sizes .pages) (u .sizes .slots) ring count (record-of (c .nonce) (half-of (count + 1))) (λ (r : List ℕ). List·Memᴰ (take nonce-length r) nonces)
   new-ring (inl x) = first-ring (u .sizes .pages) (u .sizes .slots) ring count (record-of (c .nonce) (half-of (count + 1))) (λ (r : List ℕ). List·Memᴰ (take nonce-length r) nonces)
       (length-record (c .nonce) (half-of (count + 1)) (good .nonce-long)) (is-record-of (c .nonce) (half-of (count + 1)) (good .nonce-long) (omega arith))
       (rw (nonce-of-record (c .nonce) (half-of (count + 1)) (good .nonce-long)) mine) (x .no-record) right (x .ring-blank)
@@ -187,8 +187,8 @@ module _ {u : Setup} {s : State} {h : Handed} (inv : Holds u s) (x : Recording u
   abbrev new : List ℕ
   new = record-at (u .sizes .pages) (u .sizes .slots) (s .ring) (s .journal .count) (record-of (x .before .working .c .nonce) (half-of (s .journal .count + 1)))
 
-  pub owing : Durable-at u s (s .ring) (s .fram) false
-  owing = subst (λ (b : Bool). Durable-at u s (s .ring) (s .fram) b) (x .owed) (inv .durable)
+  pub owing : DurableAt u s (s .ring) (s .fram) false
+  owing = subst (λ (b : Bool). DurableAt u s (s .ring) (s .fram) b) (x .owed) (inv .durable)
 
   pub recorded-durable : Recorded u new (s .fram) (s .nonces) (some (x .before .working .c)) (s .journal .count + 1) (full (u .sizes .slots) (s .journal .count))
       (x .before .working .c .restarts) (x .before .working .c)

@@ -23,7 +23,7 @@ use Rattle.protocol.specs.Operations.{key-wrong, nonce-wrong, staging-wr
 use Rattle.protocol.specs.Journal.{Store, drafted, stores-of, power-up-draft}
 use Rattle.protocol.specs.History.{State, fresh, step, run, Allowed}
 use Rattle.protocol.specs.Recovery.{Exactly, Fits, Last, answers, Resumes, Outcome, Recovery}
-use Rattle.protocol.proofs.Invariant.{draft-of, Durable-at, Untouched, Holds, Ended}
+use Rattle.protocol.proofs.Invariant.{draft-of, DurableAt, Untouched, Holds, Ended}
 use Rattle.protocol.proofs.Reading.{reads, new-nonce, head-found, tag-found, restarts-found}
 use Rattle.protocol.proofs.Starts.{started}
 use Rattle.protocol.proofs.PowerUps.{power-call, Entry, resuming-job, power-up-is, resuming-holds, step-is}
@@ -157,7 +157,7 @@ module _ (u : Setup) (s : State) (inv : Holds u s) (a : PowersUp) (key-long : le
       cases c r true e = outcome-worn c r (eqb-true (c .restarts) restart-limit e)
       cases c r false e = outcome-resumes c r (eqb-false (c .restarts) restart-limit e)
 
-      go : Durable-at u s (s .ring) (s .fram) (s .journal .owed) → Outcome u s (power-call u a)
+      go : DurableAt u s (s .ring) (s .fram) (s .journal .owed) → Outcome u s (power-call u a)
       go (inl x) = outcome-blank x
       go (inr (c, r)) = cases c r (eqb (c .restarts) restart-limit) refl
 

@@ -16,7 +16,7 @@ use Rattle.protocol.specs.Journal.{Journal, Draft, Store, erase, word, r
 use Rattle.protocol.specs.History.{State, Handed, moved, left-by, step, run, refused, is-stopped, Keeps, Allowed}
 use Rattle.protocol.specs.Recovery.{advances-of}
 use Rattle.protocol.specs.Histories.{stores-left, to-its-end}
-use Rattle.protocol.proofs.Invariant.{draft-of, Durable-at, Holds, Ended}
+use Rattle.protocol.proofs.Invariant.{draft-of, DurableAt, Holds, Ended}
 use Rattle.protocol.proofs.Advances.{Moves, call}
 use Rattle.protocol.proofs.Advancing.{advancing}
 use Rattle.protocol.proofs.PowerUps.{Entry}
@@ -162,6 +162,6 @@ pub record Rests (u : Setup) (s : State) (c : Checkpoint) : Type 0 where
 pub rests : (u : Setup) (s : State) (c : Checkpoint) → Holds u s → Ended u s c → Rests u s c
 rests u s c inv x = go (inv .durable)
   where
-    go : Durable-at u s (s .ring) (s .fram) (s .journal .owed) → Rests u s c
+    go : DurableAt u s (s .ring) (s .fram) (s .journal .owed) → Rests u s c
     go (inl y) = absurd (let p = y .no-entry in let e = x .entry in let z : _≡_ {A = ℕ} 0 1 = cc in omega arith)
     go (inr (d, r)) = let p = r .entry-is in let e = x .entry in let q : d ≡ c = cc in record { holds = inv; entry = subst (λ (y : Checkpoint). Entry u s y) q r; ended = x }

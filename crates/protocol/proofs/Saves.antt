@@ -24,21 +24,21 @@ use Rattle.protocol.specs.Operations.{key-wrong, nonce-wrong, job-of, sa
 use Rattle.protocol.specs.Journal.{entered, saved-entry, Journal, drafted, save-draft}
 use Rattle.protocol.specs.History.{State, step, Keeps, left-by, refused}
 use Rattle.protocol.proofs.Facts.{no-fact}
-use Rattle.protocol.proofs.Invariant.{Good, Durable-at, Recorded, Holds}
+use Rattle.protocol.proofs.Invariant.{Good, DurableAt, Recorded, Holds}
 use Rattle.protocol.proofs.Reading.{reads, nonce-found, target-page-found, target-slot-found, other-half}
 use Rattle.protocol.proofs.Starts.{started, start-holds, begun-stopped, begun-none, Parts, parts-pass, save-arguments, same-arguments}
 
 abbrev pub save-call : Setup → Saves → Saves
 save-call u a = record { arguments = save-arguments u (a .arguments); session = a .session }
 
-record Save-passes (u : Setup) (ring fram : List ℕ) (a : Saves) : Type 0 where
+record SavePasses (u : Setup) (ring fram : List ℕ) (a : Saves) : Type 0 where
   nonce-long : length (a .arguments .nonce) ≡ nonce-length
   parts : Parts (a .arguments .open-part) (a .arguments .secret) (half-length fram) (length (a .arguments .staging))
   in-use : is-blank (read-ring ring (u .sizes .pages) (u .sizes .slots)) ≡ false
   fresh-session : stale ring (u .sizes .slots) (read-ring ring (u .sizes .pages) (u .sizes .slots)) (a .session) ≡ false
   none-pending : is-pending (read-ring ring (u .sizes .pages) (u .sizes .slots)) ≡ false
 
-save-passes : (u : Setup) (ring fram : List ℕ) (a : Saves) → save-stop ring fram (save-call u a) ≡ none → Save-passes u ring fram a
+save-passes : (u : Setup) (ring fram : List ℕ) (a : Saves) → save-stop ring fram (save-call u a) ≡ none → SavePasses u ring fram a
 unfolding save-stop
 save-passes u ring fram a e =
     let p = passes _ e in
@@ -57,7 +57,7 @@ pub in-use-recorded : (u : Setup) (s : State) → Holds u s → is-blank (read-r
     → (c : Checkpoint) × Recorded u (s .ring) (s .fram) (s .nonces) (s .journal .entry) (s .journal .count) (s .journal .owed) (s .journal .power-ups) c
 in-use-recorded u s inv b = go (inv .durable)
   where
-    go : Durable-at u s (s .ring) (s .fram) (s .journal .owed)
+    go : DurableAt u s (s .ring) (s .fram) (s .journal .owed)
         → (c : Checkpoint) × Recorded u (s .ring) (s .fram) (s .nonces) (s .journal .entry) (s .journal .count) (s .journal .owed) (s .journal .power-ups) c
     go (inl x) = no-fact (rw (read-blank (u .sizes .pages) (u .sizes .slots) (s .ring) (inv .ring-right) (x .ring-blank)) at b)
     go (inr r) = r
@@ -78,7 +78,7 @@ module _ (u : Setup) (s : State) (inv : Holds u s) (a : Saves) (new : List·Mem�
       (target-page (u .sizes .pages) (u .sizes .slots) n) (target-slot (u .sizes .slots) n)
 
   module _ (e : save-stop (s .ring) (s .fram) (save-call u a) ≡ none) where
-    p : Save-passes u (s .ring) (s .fram) a
+    p : SavePasses u (s .ring) (s .fram) a
     p = save-passes u (s .ring) (s .fram) a e
 
     x : (c : Checkpoint) × Recorded u (s .ring) (s .fram) (s .nonces) (s .journal .entry) (s .journal .count) (s .journal .owed) (s .journal .power-ups) c

@@ -26,7 +26,7 @@ start-answer none = Begun
 start-answer (some x) = Stopped x
 
 -- an advance leaves its phase's store whole, and all else as it was: what a power loss in it would leave, with the whole store in its place
-pub record One-store (s : State) (a : Advances) : Type 0 where
+pub record OneStore (s : State) (a : Advances) : Type 0 where
   pub ring : advance (s .ring) (s .fram) a .ring
       ≡ broken-ring (a .job .phase) (s .ring) (a .sizes .slots) (a .job) (bytes-of (a .job .phase) (a .job) (a .sizes .slots) (a .staging))
   pub fram : advance (s .ring) (s .fram) a .fram
@@ -49,7 +49,7 @@ Started stop b staging state =
 abbrev pub Advanced : State → Advances → Option ℕ → Moved → Type 0
 Advanced s a stop m =
     ((x : ℕ) → stop ≡ some x → (m .progress ≡ Refused x) × (m .ring ≡ s .ring) × (m .fram ≡ s .fram) × (m .job ≡ a .job) × (m .session ≡ no-session))
-    × (stop ≡ none → (is-stopped (m .progress) ≡ false) × (m .session ≡ cond (is-going (m .progress)) no-session (session-of (a .job))) × One-store s a)
+    × (stop ≡ none → (is-stopped (m .progress) ≡ false) × (m .session ≡ cond (is-going (m .progress)) no-session (session-of (a .job))) × OneStore s a)
 
 -- the call answers the first stop of document 01's table that applies, and what a stop leaves is as it was
 unfoldable pub Exact : State → Event → Type 0
