@@ -11,13 +11,13 @@ use Rattle.stops.proofs.Laws.{neither, passes}
 use Rattle.ring.specs.Ring.{ring-wrong, page-erased}
 use Rattle.checkpoint.specs.Checkpoint.{Checkpoint, empty-length}
 use Rattle.checkpoint.specs.Fram.{half-length}
-use Rattle.protocol.specs.Types.{Origin, Phase, EraseFirst, Words, Record, EraseAfter, Done, Job}
+use Rattle.protocol.specs.Types.{Save, PowerUp, Origin, Phase, EraseFirst, Words, Record, EraseAfter, Done, Job}
 use Rattle.protocol.specs.Calls.{Setup, advanced-by, Sizes, Advances}
-use Rattle.protocol.specs.Operations.{session-of, in-phase, phase-wrong, ended, recorded, store, advance, job-wrong, advance-stop, advance-by}
+use Rattle.protocol.specs.Operations.{finished, session-of, in-phase, phase-wrong, ended, recorded, store, advance, job-wrong, advance-stop, advance-by}
 use Rattle.protocol.specs.Journal.{Journal, Draft, Store, made, advanced, entered}
 use Rattle.protocol.specs.History.{State, Handed, step, moved, refused, is-stopped, Keeps, left-by}
 use Rattle.protocol.proofs.Facts.{no-fact}
-use Rattle.protocol.proofs.Invariant.{draft-of, DurableAt, ErasingAfter, Doing, Holds, Moving}
+use Rattle.protocol.proofs.Invariant.{answer-of, draft-of, DurableAt, ErasingAfter, Doing, Holds, Moving}
 use Rattle.protocol.proofs.Advances.{Moves, call, after, advance-stores, after-ended, doing-of, erased-durable, page-right, erasing-first, writing}
 use Rattle.protocol.proofs.Records.{session-is, more-known, more-match, recording}
 
@@ -98,6 +98,12 @@ module _ (u : Setup) (s : State) (h : Handed) (inv : Holds u s) (c : Checkpoint)
   pub advancing : s .handed ≡ some h
       → Moves u s h c origin rest
   advancing e = go (h .job .phase) refl (inv .doing h e)
+
+pub going : (origin : Origin) (rest : List Store) → is-stopped (answer-of origin rest) ≡ false
+unfolding is-stopped finished
+going Save [] = refl
+going PowerUp [] = refl
+going origin (x ∷ rest) = refl
 
 -- ---- every advance of the job handed out last
 

@@ -11,7 +11,7 @@ use lib.Dec.{T, eqb, ltb}
 use lib.Seq.{take-append-seam}
 use Rattle.ring.specs.Ring.{newest-record}
 use Rattle.checkpoint.specs.Checkpoint.{Checkpoint, own-tag, sealed}
-use Rattle.protocol.specs.Types.{Origin, Save, PowerUp, Progress, GoingOn, Restored}
+use Rattle.protocol.specs.Types.{PowerUp, Progress, GoingOn, Restored}
 use Rattle.protocol.specs.Calls.{Advances, Setup, Event, first-saved, saved, powered-up, advanced-by, PowerLoss, lost-in-store}
 use Rattle.protocol.specs.Operations.{finished, ended, advance, newest-half}
 use Rattle.protocol.specs.Journal.{Journal, Store, word, record-slot, erase-if, stores-of}
@@ -22,7 +22,7 @@ use Rattle.protocol.proofs.Invariant.{draft-of, page-in, slot-in, Durab
 use Rattle.protocol.proofs.Reading.{record-found, reads, nonce-found, newest-half-is}
 use Rattle.protocol.proofs.Refused.{T→true, step-refused}
 use Rattle.protocol.proofs.Advances.{call}
-use Rattle.protocol.proofs.Advancing.{advancing}
+use Rattle.protocol.proofs.Advancing.{advancing, going}
 
 stands : (u : Setup) (t : State) (new : Checkpoint) → Holds u t → Ended u t new → Stands u t new
 unfolding newest-record newest-half
@@ -154,12 +154,6 @@ pub advances-on : (u : Setup) (n : ℕ) (t : State) (h : Handed) → t .handed �
     → advances-of u (suc n) t ≡ advanced-by (call u h) ∷ advances-of u n (step u t (advanced-by (call u h)))
 unfolding advances-of with-handed
 advances-on u n t h e = ap (λ (o : Option Handed). with-handed o (λ h. advanced-by (call u h) ∷ advances-of u n (step u t (advanced-by (call u h))))) e
-
-pub going : (origin : Origin) (rest : List Store) → is-stopped (answer-of origin rest) ≡ false
-unfolding is-stopped finished
-going Save [] = refl
-going PowerUp [] = refl
-going origin (x ∷ rest) = refl
 
 runs-more : (u : Setup) (t : State) (h : Handed) (n : ℕ) → t .handed ≡ some h → is-stopped (advance (t .ring) (t .fram) (call u h) .progress) ≡ false
     → Uninterrupted u (step u t (advanced-by (call u h))) (advances-of u n (step u t (advanced-by (call u h))))

@@ -18,9 +18,9 @@ use Rattle.protocol.specs.Recovery.{advances-of}
 use Rattle.protocol.specs.Histories.{stores-left, to-its-end}
 use Rattle.protocol.proofs.Invariant.{draft-of, DurableAt, Holds, Ended}
 use Rattle.protocol.proofs.Advances.{Moves, call}
-use Rattle.protocol.proofs.Advancing.{advancing}
+use Rattle.protocol.proofs.Advancing.{advancing, going}
 use Rattle.protocol.proofs.PowerUps.{Entry}
-use Rattle.protocol.proofs.LastRun.{advances-on, going, stores-some}
+use Rattle.protocol.proofs.LastRun.{advances-on, stores-some}
 use Rattle.protocol.proofs.Blind.{blind}
 
 -- ---- what one advance leaves

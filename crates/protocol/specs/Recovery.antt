@@ -2,7 +2,7 @@
 -- and what a power-up after the list finds.
 use Prim.Native.Nat.{ℕ, zero, suc, _-_, _≤_}
 use mathlib.Core.Path.{_≡_}
-use mathlib.Core.Bool.{Bool, true, false, cond}
+use mathlib.Core.Bool.{Bool, true, false, not, cond}
 use mathlib.Core.Option.{Option, none, some}
 use mathlib.Core.List.{List, [], _∷_, _++_, List·Memᴰ}
 use mathlib.Core.Logic.{_↔_, _⊎_}
@@ -69,17 +69,27 @@ unfoldable pub said : Option Draft → Progress
 said none = GoingOn
 said (some d) = cond (to-come (d .stores)) GoingOn (ending (d .origin))
 
-unfoldable pub Told : Setup → State → Event → Type 0
-Told u s (first-saved a) = Unit {0}
-Told u s (saved a) = Unit {0}
-Told u s (powered-up a) = Unit {0}
-Told u s (advanced-by a) = T (refused s (advanced-by a)) ⊎ (advance (s .ring) (s .fram) a .progress ≡ said (step u s (advanced-by a) .journal .draft))
-Told u s PowerLoss = Unit {0}
-Told u s (lost-in-store left) = Unit {0}
+unfoldable pub store-left : Option Draft → Bool
+store-left none = false
+store-left (some d) = to-come (d .stores)
+
+-- an advance of the job handed out last stops exactly if no store is to come, and else says what the draft makes it say
+abbrev pub Told : Setup → State → Advances → Type 0
+Told u s a =
+    (refused s (advanced-by a) ≡ not (store-left (s .journal .draft)))
+    × (store-left (s .journal .draft) ≡ true → advance (s .ring) (s .fram) a .progress ≡ said (step u s (advanced-by a) .journal .draft))
+
+unfoldable pub Follows : Setup → State → Event → Type 0
+Follows u s (first-saved a) = Unit {0}
+Follows u s (saved a) = Unit {0}
+Follows u s (powered-up a) = Unit {0}
+Follows u s (advanced-by a) = Keeps u s (advanced-by a) → Told u s a
+Follows u s PowerLoss = Unit {0}
+Follows u s (lost-in-store left) = Unit {0}
 
 unfoldable pub Exactly : Setup → State → List Event → Type 0
 Exactly u s [] = Unit {0}
-Exactly u s (e ∷ more) = Exact s e × Told u s e × Exactly u (step u s e) more
+Exactly u s (e ∷ more) = Exact s e × Follows u s e × Exactly u (step u s e) more
 
 -- ---- the last power-up
 
