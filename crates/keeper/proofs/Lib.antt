@@ -1,0 +1,3 @@
+-- Laws of the views and of the operations' conditions.
+pub mod ViewLaws
+pub mod AdvanceLaws

@@ -1,0 +1,19 @@
+// The checkpoint keeper (document 01): a job or a session goes in by value, and its successor comes out.
+mod advance;
+mod buffers;
+mod job;
+mod memories;
+mod types;
+
+pub use buffers::wipe;
+pub use types::Advanced;
+pub use types::Job;
+pub use types::Looked;
+pub use types::Moved;
+pub use types::Origin;
+pub use types::Phase;
+pub use types::PoweredUp;
+pub use types::Progress;
+pub use types::Session;
+pub use types::Start;
+pub use types::Started;
