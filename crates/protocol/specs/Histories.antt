@@ -77,6 +77,7 @@ pub record Reached (u : Setup) (s : State) (events : List Event) (n k : ℕ) : T
   pub power-ups : run u s events .journal .power-ups ≡ k
   pub newest : read-ring (run u s events .ring) (u .sizes .pages) (u .sizes .slots) ≡ At ((n + k) / u .sizes .slots % u .sizes .pages) ((n + k) % u .sizes .slots)
 
+-- for every unit; the bound is that of a 12-byte number, since no nonce repeats
 unfoldable pub Reachable : Type 0
 Reachable =
     (u : Setup) (ring fram : List ℕ) → blank ring ≡ true → Fits u ring fram
