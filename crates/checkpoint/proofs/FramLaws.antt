@@ -4,9 +4,9 @@ use mathlib.Core.Path.{_≡_, refl}
 use mathlib.Core.Bool.{false}
 use mathlib.Core.Logic.{_⊎_, inl, inr}
 use mathlib.Core.List.{List}
+use native.Mathlib.Omega.{arith}
 use lib.ListN.{length}
 use borrow.Author.Tests.{eqb-true, ltb-false, not-false}
-use native.Mathlib.Omega.{arith}
 use Rattle.octets.specs.Limits.{fram-least, fram-limit, fram-step}
 use Rattle.octets.specs.Octets.{part}
 use Rattle.octets.proofs.Laws.{length-part, part-part}

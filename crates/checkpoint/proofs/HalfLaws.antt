@@ -4,9 +4,9 @@ use Prim.Native.Nat.{ℕ, _/_, _≤_}
 use mathlib.Core.Path.{_≡_}
 use mathlib.Core.Bool.{true}
 use mathlib.Core.List.{List, _++_}
+use native.Mathlib.Omega.{arith}
 use lib.ListN.{length, length-append}
 use borrow.Author.Tests.{le-leb}
-use native.Mathlib.Omega.{arith}
 use Rattle.octets.specs.Limits.{part-limit, restart-limit}
 use Rattle.octets.proofs.Laws.{same-refl}
 use Rattle.octets.proofs.Numbers.{kind-is, value-is}

@@ -2,9 +2,9 @@
 use Prim.Native.Nat.{ℕ, _+_, _*_, _/_, _^_}
 use mathlib.Core.Path.{_≡_, refl, _∙_}
 use mathlib.Core.List.{List, _++_, append-assoc}
+use native.Mathlib.Omega.{arith}
 use lib.ListN.{length, length-append}
 use lib.Seq.{take-at, drop-at}
-use native.Mathlib.Omega.{arith}
 use Rattle.octets.specs.Limits.{tag-length}
 use Rattle.octets.specs.Octets.{part}
 use Rattle.octets.specs.Word.{word, word-at}

@@ -1,13 +1,12 @@
 -- What the calls promise together. Assumes nothing.
-use mathlib.Core.Bool.{Bool, true, false, not, cond, _||_}
-use mathlib.Core.List.{List, [], _∷_}
+use mathlib.Core.Bool.{Bool, true, false, cond}
+use mathlib.Core.List.{List}
 use mathlib.Core.Logic.{inl, inr}
 use mathlib.Core.Option.{Option, none, some}
-use mathlib.Core.Path.{_≡_, refl, sym, ap, ap₂, _∙_}
+use mathlib.Core.Path.{_≡_, refl, sym, ap, _∙_}
 use Prim.Native.Nat.{ℕ, _≤_}
 use native.Mathlib.Omega.{arith}
 use borrow.Author.Tests.{eq-eqb, le-ltb}
-use lib.Dec.{eqb, ltb}
 use lib.ListN.{length, take, drop}
 use lib.Seq.{take-at}
 use Rattle.octets.specs.Octets.{put, same}
@@ -15,7 +14,7 @@ use Rattle.octets.proofs.Laws.{same-refl, same-equal, equal-same, put-front}
 use Rattle.stops.specs.Stops.{first-of}
 use Rattle.aes.specs.Cipher.{aes}
 use Rattle.gcm.specs.Gcm.{GCM-AE, GCM-AD, encrypted, tag}
-use Rattle.gcm.specs.Calls.{key-wrong, nonce-wrong, tag-wrong, buffers-wrong, seal-stop, Sealing, sealing-at, sealing, open-length-stop, Opening, opening-at, opening}
+use Rattle.gcm.specs.Calls.{seal-stop, sealing-at, sealing, open-length-stop, Opening, opening}
 use Rattle.gcm.proofs.Checks.{Fit, seal-fits}
 use Rattle.gcm.proofs.Laws.{encrypted-twice, length-encrypted, length-tag}
 use Rattle.gcm.proofs.Outcomes.{opened}

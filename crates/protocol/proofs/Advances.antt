@@ -22,11 +22,11 @@ use Rattle.checkpoint.specs.Checkpoint.{Checkpoint, empty-length, sealed}
 use Rattle.checkpoint.specs.Half.{stored}
 use Rattle.checkpoint.specs.Fram.{fram-wrong, half-length}
 use Rattle.checkpoint.proofs.FramLaws.{fram-kept, half-kept, half-within, halves-apart}
-use Rattle.protocol.specs.Calls.{Advances, Setup, advanced-by}
-use Rattle.protocol.specs.Journal.{entered, Journal, Draft, Store, erase, word, record-slot, made, advanced}
-use Rattle.protocol.specs.Operations.{staging-wrong, session-of, in-phase, phase-wrong, job-wrong, advance-stop, going-on, finished, ended, stored-word, store, advance-by, advance}
-use Rattle.protocol.specs.History.{State, Handed, moved, step, left-by, refused, is-stopped}
 use Rattle.protocol.specs.Types.{Origin, Save, PowerUp, Session, Phase, EraseFirst, Words, Record, Done, Progress, GoingOn}
+use Rattle.protocol.specs.Calls.{Advances, Setup, advanced-by}
+use Rattle.protocol.specs.Operations.{staging-wrong, session-of, in-phase, phase-wrong, job-wrong, advance-stop, going-on, finished, ended, stored-word, store, advance-by, advance}
+use Rattle.protocol.specs.Journal.{entered, Journal, Draft, Store, erase, word, record-slot, made, advanced}
+use Rattle.protocol.specs.History.{State, Handed, moved, step, left-by, refused, is-stopped}
 use Rattle.protocol.proofs.Facts.{no-fact}
 use Rattle.protocol.proofs.Invariant.{length-good, sealed-fits, half-of, page-in, owed-page, Durable-at, Durable, Working, Before, last-erase, Stored, Erasing-first, Writing, Doing, Holds, answer-of, Moving}
 

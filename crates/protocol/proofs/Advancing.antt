@@ -11,15 +11,15 @@ use Rattle.stops.proofs.Laws.{neither}
 use Rattle.ring.specs.Ring.{ring-wrong, page-erased}
 use Rattle.checkpoint.specs.Checkpoint.{Checkpoint, empty-length}
 use Rattle.checkpoint.specs.Fram.{half-length}
-use Rattle.protocol.specs.Calls.{Setup, advanced-by, Sizes, Advances}
-use Rattle.protocol.specs.Journal.{Journal, Draft, Store, made, advanced, entered}
-use Rattle.protocol.specs.Operations.{session-of, in-phase, phase-wrong, ended, recorded, store, advance, job-wrong, advance-stop, advance-by}
-use Rattle.protocol.specs.History.{State, Handed, step, moved, refused, is-stopped, Keeps, left-by}
 use Rattle.protocol.specs.Types.{Origin, Phase, EraseFirst, Words, Record, EraseAfter, Done, Job}
+use Rattle.protocol.specs.Calls.{Setup, advanced-by, Sizes, Advances}
+use Rattle.protocol.specs.Operations.{session-of, in-phase, phase-wrong, ended, recorded, store, advance, job-wrong, advance-stop, advance-by}
+use Rattle.protocol.specs.Journal.{Journal, Draft, Store, made, advanced, entered}
+use Rattle.protocol.specs.History.{State, Handed, step, moved, refused, is-stopped, Keeps, left-by}
+use Rattle.protocol.proofs.Facts.{no-fact, passed}
 use Rattle.protocol.proofs.Invariant.{Durable-at, Erasing-after, Doing, Holds, Moving}
 use Rattle.protocol.proofs.Advances.{call, after, advance-stores, after-ended, doing-of, erased-durable, page-right, erasing-first, writing}
 use Rattle.protocol.proofs.Records.{session-is, more-known, more-match, recording}
-use Rattle.protocol.proofs.Facts.{no-fact, passed}
 
 module _ (u : Setup) (s : State) (h : Handed) (inv : Holds u s) where
   pub erasing-after : (p : ℕ) → h .job .phase ≡ EraseAfter p → (x : Erasing-after u s h p)

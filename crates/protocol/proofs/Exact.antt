@@ -7,10 +7,10 @@ use mathlib.Core.List.{List}
 use lib.Dec.{T}
 use Rattle.ring.specs.Ring.{page-before, page-erased}
 use Rattle.checkpoint.specs.Checkpoint.{Checkpoint}
+use Rattle.protocol.specs.Types.{Job, Session, Origin, Save, PowerUp, Phase, EraseFirst, Words, Record, EraseAfter, Done}
 use Rattle.protocol.specs.Calls.{Sizes, Advances, Event, first-saved, saved, powered-up, advanced-by, PowerLoss, lost-in-store}
 use Rattle.protocol.specs.Operations.{no-job, going-on, ended, stored-word, recorded, erase-follows, after-record, store, advance-by, advance, begin, first-save, save, power-up, finished, no-session, session-of}
 use Rattle.protocol.specs.History.{State, broken-ring, broken-fram, is-stop, bytes-of}
-use Rattle.protocol.specs.Types.{Job, Session, Origin, Save, PowerUp, Phase, EraseFirst, Words, Record, EraseAfter, Done}
 use Rattle.protocol.specs.Recovery.{start-answer, is-going, Exact}
 use Rattle.protocol.proofs.Refused.{store-answers}
 

@@ -16,15 +16,15 @@ use Rattle.ring.specs.Ring.{Blank}
 use Rattle.ring.proofs.RingLaws.{read-blank}
 use Rattle.ring.proofs.FoundLaws.{found}
 use Rattle.checkpoint.specs.Fram.{half-length}
-use Rattle.protocol.specs.Calls.{FirstSave, Setup, first-saved}
-use Rattle.protocol.specs.Journal.{entered, first-draft}
-use Rattle.protocol.specs.Operations.{key-wrong, nonce-wrong, tag-wrong, job-of, first-save-stop, first-checkpoint, first-save}
-use Rattle.protocol.specs.History.{State, step, Keeps, left-by, refused}
 use Rattle.protocol.specs.Types.{Save, Words}
-use Rattle.protocol.proofs.Invariant.{Good, half-of, page-in, slot-in, Durable-at, Untouched, Holds}
+use Rattle.protocol.specs.Calls.{FirstSave, Setup, first-saved}
+use Rattle.protocol.specs.Operations.{key-wrong, nonce-wrong, tag-wrong, job-of, first-save-stop, first-checkpoint, first-save}
+use Rattle.protocol.specs.Journal.{entered, first-draft}
+use Rattle.protocol.specs.History.{State, step, Keeps, left-by, refused}
 use Rattle.protocol.proofs.Facts.{passed}
-use Rattle.protocol.proofs.Starts.{started, start-holds, begun-stopped, begun-none, Parts, parts-pass, save-arguments}
+use Rattle.protocol.proofs.Invariant.{Good, half-of, page-in, slot-in, Durable-at, Untouched, Holds}
 use Rattle.protocol.proofs.Reading.{reads}
+use Rattle.protocol.proofs.Starts.{started, start-holds, begun-stopped, begun-none, Parts, parts-pass, save-arguments}
 
 abbrev pub first-call : Setup → FirstSave → FirstSave
 first-call u a = record { arguments = save-arguments u (a .arguments); starting-tag = a .starting-tag }

@@ -15,7 +15,7 @@ use Rattle.octets.specs.Octets.{blank, put, number, bytes}
 use Rattle.octets.proofs.Laws.{same-refl}
 use Rattle.octets.proofs.Numbers.{length-bytes, number-bytes}
 use Rattle.stops.specs.Stops.{first-of}
-use Rattle.ring.specs.Ring.{At, record-of, newest-page, newest-slot, newest-record, not-newest}
+use Rattle.ring.specs.Ring.{At, record-of, newest-record, not-newest}
 use Rattle.ring.proofs.RingLaws.{page-of, slot-of}
 use Rattle.ring.proofs.FoundLaws.{found, not-blank, not-unreadable, pending-is}
 use Rattle.checkpoint.specs.Fram.{fram-wrong, half-length}
@@ -23,13 +23,13 @@ use Rattle.checkpoint.specs.Checkpoint.{Checkpoint, part-wrong, sealed}
 use Rattle.checkpoint.proofs.FramLaws.{fram-sizes, two-halves}
 use Rattle.protocol.specs.Types.{Session, Save, PowerUp, Words}
 use Rattle.protocol.specs.Calls.{FirstSave, Saves, PowersUp, Setup, Event, first-saved, saved, powered-up}
-use Rattle.protocol.specs.Journal.{drafted, stores-of, power-up-draft, empty}
 use Rattle.protocol.specs.Operations.{key-wrong, nonce-wrong, staging-wrong, parts-wrong, stale, job-of, first-checkpoint, first-save-stop, save-checkpoint, save-stop}
+use Rattle.protocol.specs.Journal.{drafted, stores-of, power-up-draft, empty}
 use Rattle.protocol.specs.History.{State, fresh, run, Keeps, Allowed}
 use Rattle.protocol.specs.Recovery.{Fits, Last}
 use Rattle.protocol.specs.Histories.{to-its-end, staging-room, state-room, numbered-first, numbered-save, numbered-power-up, with-session, saves-on, power-ups-on, history, Reachable}
-use Rattle.protocol.proofs.Invariant.{half-of, session-in, Holds}
 use Rattle.protocol.proofs.Facts.{no-fact}
+use Rattle.protocol.proofs.Invariant.{half-of, session-in, Holds}
 use Rattle.protocol.proofs.Reading.{reads, record-found, new-nonce}
 use Rattle.protocol.proofs.FirstSaves.{first-begun, first-step}
 use Rattle.protocol.proofs.Saves.{saving-job, save-begun, save-step}
@@ -181,7 +181,7 @@ module _ (u : Setup) (key-long : length (u .key) ≡ key-length) (s : State) (n 
 
 found-newest : (ring : List ℕ) (pages slots count : ℕ) (owed : Bool) (r : List ℕ) → owed ≡ false → newest-record ring slots (found pages slots count owed) ≡ r
     → not-newest ring slots (found pages slots count owed) (page-of pages slots count) (slot-of slots count) r ≡ false
-unfolding not-newest newest-page newest-slot
+unfolding not-newest
 found-newest ring pages slots count true r o e = no-fact o
 found-newest ring pages slots count false r o e =
     rw (e, same-refl r, eq-eqb (page-of pages slots count) (page-of pages slots count) refl, eq-eqb (slot-of slots count) (slot-of slots count) refl)

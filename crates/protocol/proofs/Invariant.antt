@@ -16,11 +16,11 @@ use Rattle.checkpoint.specs.Checkpoint.{Checkpoint, own-tag, sealed, sealed-len
 use Rattle.checkpoint.specs.Layout.{InRange}
 use Rattle.checkpoint.proofs.SealedLaws.{length-sealed}
 use Rattle.checkpoint.specs.Fram.{fram-wrong, half-length}
-use Rattle.protocol.specs.Calls.{Setup}
-use Rattle.protocol.specs.Journal.{Draft, Store, erase, word, record-slot, erase-if}
-use Rattle.protocol.specs.Operations.{finished}
-use Rattle.protocol.specs.History.{State, Handed}
 use Rattle.protocol.specs.Types.{Origin, Session, Phase, EraseFirst, Words, Record, EraseAfter, Done, Progress, GoingOn}
+use Rattle.protocol.specs.Calls.{Setup}
+use Rattle.protocol.specs.Operations.{finished}
+use Rattle.protocol.specs.Journal.{Draft, Store, erase, word, record-slot, erase-if}
+use Rattle.protocol.specs.History.{State, Handed}
 
 -- the half of the last of `count` records: they alternate, from half A on
 abbrev pub half-of : ℕ → ℕ

@@ -9,23 +9,23 @@ use native.Mathlib.Omega.{arith}
 use lib.ListN.{length, take, replicate}
 use lib.Dec.{T, eqb, ltb}
 use lib.Seq.{take-append-seam}
-use Rattle.ring.specs.Ring.{newest-record, newest-page, newest-slot}
+use Rattle.ring.specs.Ring.{newest-record}
 use Rattle.checkpoint.specs.Checkpoint.{Checkpoint, own-tag, sealed}
-use Rattle.protocol.specs.Calls.{Advances, Setup, Event, first-saved, saved, powered-up, advanced-by, PowerLoss, lost-in-store}
-use Rattle.protocol.specs.Journal.{Journal, Store, word, record-slot, erase-if, stores-of}
-use Rattle.protocol.specs.Operations.{finished, ended, advance, newest-half}
-use Rattle.protocol.specs.History.{State, Handed, step, run, refused, is-stopped, Keeps}
 use Rattle.protocol.specs.Types.{Origin, Save, PowerUp, Progress, GoingOn, Restored}
+use Rattle.protocol.specs.Calls.{Advances, Setup, Event, first-saved, saved, powered-up, advanced-by, PowerLoss, lost-in-store}
+use Rattle.protocol.specs.Operations.{finished, ended, advance, newest-half}
+use Rattle.protocol.specs.Journal.{Journal, Store, word, record-slot, erase-if, stores-of}
+use Rattle.protocol.specs.History.{State, Handed, step, run, refused, is-stopped, Keeps}
 use Rattle.protocol.specs.Recovery.{is-advance, Uninterrupted, answered, answers, with-handed, advances-of, Stands}
+use Rattle.protocol.proofs.Facts.{T-true}
 use Rattle.protocol.proofs.Invariant.{page-in, slot-in, Durable-at, Recorded, Holds, answer-of, Ended, Moving}
+use Rattle.protocol.proofs.Reading.{record-found, reads, nonce-found, newest-half-is}
+use Rattle.protocol.proofs.Refused.{T→true, step-refused}
 use Rattle.protocol.proofs.Advances.{call}
 use Rattle.protocol.proofs.Advancing.{advancing}
-use Rattle.protocol.proofs.Refused.{T→true, step-refused}
-use Rattle.protocol.proofs.Facts.{T-true}
-use Rattle.protocol.proofs.Reading.{record-found, reads, nonce-found, newest-half-is}
 
 stands : (u : Setup) (t : State) (new : Checkpoint) → Holds u t → Ended u t new → Stands u t new
-unfolding newest-record newest-page newest-slot newest-half
+unfolding newest-record newest-half
 stands u t new inv x = go (inv .durable)
   where
     recorded-stands : (c : Checkpoint) → Recorded u (t .ring) (t .fram) (t .nonces) (t .journal .entry) (t .journal .count) false (t .journal .power-ups) c → c ≡ new → Ended u t c → Stands u t new

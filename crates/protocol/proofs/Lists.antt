@@ -16,13 +16,13 @@ use Rattle.protocol.specs.Recovery.{Told, Exactly}
 use Rattle.protocol.proofs.Invariant.{Holds}
 use Rattle.protocol.proofs.Refused.{step-refused}
 use Rattle.protocol.proofs.Exact.{exact}
-use Rattle.protocol.proofs.Told.{told}
 use Rattle.protocol.proofs.Unfit.{Unfit, unfit-step, unfit-told}
-use Rattle.protocol.proofs.PowerLosses.{hold-power-loss, hold-lost-in-store}
 use Rattle.protocol.proofs.Advancing.{hold-advanced}
+use Rattle.protocol.proofs.Told.{told}
 use Rattle.protocol.proofs.FirstSaves.{hold-first}
 use Rattle.protocol.proofs.Saves.{hold-saved}
 use Rattle.protocol.proofs.PowerUps.{hold-powered-up}
+use Rattle.protocol.proofs.PowerLosses.{hold-power-loss, hold-lost-in-store}
 
 pub hold-step : (u : Setup) (s : State) (e : Event) → Holds u s → T (refused s e) ⊎ Keeps u s e → Holds u (step u s e)
 hold-step u s e inv (inl t) = rw (step-refused u s e t) inv

@@ -13,7 +13,7 @@ use Rattle.octets.specs.Limits.{key-length}
 use Rattle.octets.specs.Octets.{part, blank}
 use Rattle.octets.proofs.Laws.{part-take, part-drop}
 use Rattle.stops.specs.Stops.{first-of}
-use Rattle.ring.specs.Ring.{Newest, is-blank, half-named, newest-record}
+use Rattle.ring.specs.Ring.{Newest, half-named, newest-record}
 use Rattle.ring.proofs.RingLaws.{read-blank}
 use Rattle.ring.proofs.FoundLaws.{found, not-blank, not-unreadable}
 use Rattle.checkpoint.specs.Checkpoint.{Checkpoint, head-length}
@@ -26,8 +26,8 @@ use Rattle.protocol.specs.Operations.{newest-half, look-stop, look-by, l
 use Rattle.protocol.specs.History.{State}
 use Rattle.protocol.specs.Recovery.{looks, Seen}
 use Rattle.protocol.proofs.Invariant.{Durable-at, Holds}
-use Rattle.protocol.proofs.PowerUps.{Entry}
 use Rattle.protocol.proofs.Reading.{reads, head-found, tag-found, restarts-found, checkpoint-found, newest-half-is, behind}
+use Rattle.protocol.proofs.PowerUps.{Entry}
 
 part-part : (xs : List ℕ) (b n i m : ℕ) → i + m ≤ n → part xs (b + i) m ≡ part (part xs b n) i m
 unfolding part
@@ -44,7 +44,7 @@ module _ (u : Setup) (s : State) (inv : Holds u s) (key-long : length (u .key) �
   key-passes = rw (eq-eqb (length (u .key)) key-length key-long)
 
   look-blank : blank (s .ring) ≡ true → look-stop (s .ring) (s .fram) (looks u) ≡ some 6
-  unfolding look-stop first-of is-blank
+  unfolding look-stop first-of
   look-blank b = rw (inv .ring-right, inv .fram-right, key-passes, read-blank (u .sizes .pages) (u .sizes .slots) (s .ring) (inv .ring-right) b)
 
   module _ (c : Checkpoint) (r : Entry u s c) where

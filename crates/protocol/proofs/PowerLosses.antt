@@ -18,11 +18,11 @@ use Rattle.ring.proofs.RecordLaws.{length-record, is-record-of, record-used}
 use Rattle.checkpoint.specs.Checkpoint.{Checkpoint, own-tag}
 use Rattle.checkpoint.specs.Fram.{fram-wrong, half-length}
 use Rattle.checkpoint.proofs.FramLaws.{fram-kept, half-within}
-use Rattle.protocol.specs.Calls.{Setup, PowerLoss, lost-in-store}
-use Rattle.protocol.specs.Journal.{entered, lost-into, Journal, Draft, Store, erase, word, record-slot, erase-if, to-come, made, dropped, whole}
-use Rattle.protocol.specs.Operations.{job-record, recorded}
-use Rattle.protocol.specs.History.{State, Handed, broken-ring, broken-fram, broken, step, Left, Keeps, left-by}
 use Rattle.protocol.specs.Types.{Origin, Session, Phase, EraseFirst, Words, Record, EraseAfter, Done}
+use Rattle.protocol.specs.Calls.{Setup, PowerLoss, lost-in-store}
+use Rattle.protocol.specs.Operations.{job-record, recorded}
+use Rattle.protocol.specs.Journal.{entered, lost-into, Journal, Draft, Store, erase, word, record-slot, erase-if, to-come, made, dropped, whole}
+use Rattle.protocol.specs.History.{State, Handed, broken-ring, broken-fram, broken, step, Left, Keeps, left-by}
 use Rattle.protocol.proofs.Invariant.{sealed-fits, half-of, owed-page, Durable-at, Recorded, Durable, Working, last-erase, Writing, Recording, Doing, Holds}
 use Rattle.protocol.proofs.Advances.{erase-durable, fram-durable}
 use Rattle.protocol.proofs.Records.{recorded-durable, recorded-is, none-match, record-at, full, next-slot-blank, owing}

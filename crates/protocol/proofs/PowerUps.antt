@@ -18,16 +18,15 @@ use Rattle.checkpoint.specs.Checkpoint.{Checkpoint, sealed}
 use Rattle.checkpoint.specs.Half.{stored-restarts}
 use Rattle.checkpoint.specs.Fram.{half-length}
 use Rattle.checkpoint.proofs.SealedLaws.{length-own-tag}
-use Rattle.protocol.specs.Calls.{PowersUp, Setup, powered-up}
-use Rattle.protocol.specs.Journal.{entered, resumed-entry, Journal, drafted, power-up-draft}
-use Rattle.protocol.specs.Operations.{key-wrong, nonce-wrong, staging-wrong, Begin, begin, job-of, newest-half, newest-checkpoint, resumed, first-phase, power-up-stop, power-up}
-use Rattle.protocol.specs.History.{State, begun, step, Keeps, left-by, refused, is-stop}
 use Rattle.protocol.specs.Types.{PowerUp, Job, Phase}
-use Rattle.protocol.proofs.Invariant.{Good, half-of, page-in, slot-in, Recorded, Holds}
+use Rattle.protocol.specs.Calls.{PowersUp, Setup, powered-up}
+use Rattle.protocol.specs.Operations.{key-wrong, nonce-wrong, staging-wrong, Begin, begin, job-of, newest-half, newest-checkpoint, resumed, first-phase, power-up-stop, power-up}
+use Rattle.protocol.specs.Journal.{entered, resumed-entry, Journal, drafted, power-up-draft}
+use Rattle.protocol.specs.History.{State, begun, step, Keeps, left-by, refused, is-stop}
 use Rattle.protocol.proofs.Facts.{passed}
-use Rattle.protocol.proofs.Starts.{Begins, started, start-holds}
+use Rattle.protocol.proofs.Invariant.{Good, half-of, page-in, slot-in, Recorded, Holds}
 use Rattle.protocol.proofs.Reading.{reads, target-page-found, target-slot-found, other-half, restarts-found, checkpoint-found}
-use Rattle.protocol.proofs.Starts.{begun-stopped, begun-none}
+use Rattle.protocol.proofs.Starts.{Begins, started, start-holds, begun-stopped, begun-none}
 use Rattle.protocol.proofs.Saves.{in-use-recorded}
 
 abbrev pub power-call : Setup → PowersUp → PowersUp

@@ -20,13 +20,13 @@ use Rattle.ring.proofs.RecordLaws.{is-record-of, length-record, nonce-of-record
 use Rattle.checkpoint.specs.Checkpoint.{Checkpoint, own-tag, sealed}
 use Rattle.checkpoint.specs.Half.{stored}
 use Rattle.checkpoint.specs.Fram.{half-length}
-use Rattle.protocol.specs.Calls.{Setup, advanced-by}
-use Rattle.protocol.specs.Journal.{Journal, Draft, Store, erase, erase-if, to-come, made, advanced}
-use Rattle.protocol.specs.Operations.{Moved, job-record, session-of, in-phase, phase-wrong, going-on, ended, recorded, erase-follows, after-record, store, advance}
-use Rattle.protocol.specs.History.{State, Handed, step}
 use Rattle.protocol.specs.Types.{Session, Phase, Record, EraseAfter, Done}
-use Rattle.protocol.proofs.Invariant.{Good, session-in, half-of, page-in, slot-in, Durable-at, Recorded, Durable, Working, last-erase, Recording, Holds, Moving}
+use Rattle.protocol.specs.Calls.{Setup, advanced-by}
+use Rattle.protocol.specs.Operations.{Moved, job-record, session-of, in-phase, phase-wrong, going-on, ended, recorded, erase-follows, after-record, store, advance}
+use Rattle.protocol.specs.Journal.{Journal, Draft, Store, erase, erase-if, to-come, made, advanced}
+use Rattle.protocol.specs.History.{State, Handed, step}
 use Rattle.protocol.proofs.Facts.{no-fact}
+use Rattle.protocol.proofs.Invariant.{Good, session-in, half-of, page-in, slot-in, Durable-at, Recorded, Durable, Working, last-erase, Recording, Holds, Moving}
 use Rattle.protocol.proofs.Advances.{call, after, advance-stores, after-going, after-ended, working-on, doing-of}
 
 last-snoc : (rs : List (List ℕ)) (r : List ℕ) → last (rs ++ r ∷ []) ≡ r

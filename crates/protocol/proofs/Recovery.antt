@@ -12,24 +12,24 @@ use borrow.Author.Tests.{eq-eqb, ne-eqb, le-ltb, eqb-true, eqb-false}
 use Rattle.octets.specs.Limits.{part-limit, restart-limit, key-length, nonce-length}
 use Rattle.octets.specs.Octets.{put, blank}
 use Rattle.stops.specs.Stops.{first-of}
-use Rattle.ring.specs.Ring.{ring-wrong, is-blank}
+use Rattle.ring.specs.Ring.{ring-wrong}
 use Rattle.ring.proofs.RingLaws.{read-blank}
 use Rattle.ring.proofs.FoundLaws.{not-blank, not-unreadable}
 use Rattle.checkpoint.specs.Checkpoint.{Checkpoint, sealed}
 use Rattle.checkpoint.specs.Fram.{fram-wrong, half-length}
-use Rattle.protocol.specs.Calls.{PowersUp, Setup, Event, powered-up}
-use Rattle.protocol.specs.Journal.{Store, drafted, stores-of, power-up-draft}
-use Rattle.protocol.specs.Operations.{key-wrong, nonce-wrong, staging-wrong, state-wrong, Begin, begin, power-up-stop, power-up}
-use Rattle.protocol.specs.History.{State, fresh, step, run, Allowed}
 use Rattle.protocol.specs.Types.{PowerUp, Begun, Stopped}
+use Rattle.protocol.specs.Calls.{PowersUp, Setup, Event, powered-up}
+use Rattle.protocol.specs.Operations.{key-wrong, nonce-wrong, staging-wrong, state-wrong, Begin, begin, power-up-stop, power-up}
+use Rattle.protocol.specs.Journal.{Store, drafted, stores-of, power-up-draft}
+use Rattle.protocol.specs.History.{State, fresh, step, run, Allowed}
 use Rattle.protocol.specs.Recovery.{Exactly, Fits, Last, answers, Resumes, Outcome, Recovery}
 use Rattle.protocol.proofs.Invariant.{Durable-at, Untouched, Holds, Ended}
-use Rattle.protocol.proofs.Looking.{seen}
-use Rattle.protocol.proofs.Starts.{started}
 use Rattle.protocol.proofs.Reading.{reads, new-nonce, head-found, tag-found, restarts-found}
+use Rattle.protocol.proofs.Starts.{started}
 use Rattle.protocol.proofs.PowerUps.{power-call, Entry, resuming-job, power-up-is, resuming-holds, step-is}
 use Rattle.protocol.proofs.Lists.{hold-run, exactly, exactly-unfit, hold-fresh}
 use Rattle.protocol.proofs.LastRun.{ends, runs-on, answering, stores-some, answers-end}
+use Rattle.protocol.proofs.Looking.{seen}
 
 -- ---- what the last power-up answers
 
@@ -45,7 +45,7 @@ module _ (u : Setup) (s : State) (inv : Holds u s) (a : PowersUp) (key-long : le
   buffers-pass = rw (le-ltb (length (a .staging)) (half-length (s .fram)) (l .staging), le-ltb (length (a .state)) part-limit (l .state))
 
   stop-blank : blank (s .ring) ≡ true → stop ≡ some 6
-  unfolding power-up-stop first-of is-blank
+  unfolding power-up-stop first-of
   stop-blank b = rw (inv .ring-right, inv .fram-right, sizes-pass, buffers-pass, read-blank (u .sizes .pages) (u .sizes .slots) (s .ring) (inv .ring-right) b)
 
   pub stop-recorded : (c : Checkpoint) → Entry u s c → stop ≡ cond (eqb (c .restarts) restart-limit) (some 13) none

@@ -11,8 +11,8 @@ use lib.Dec.{eqb, ltb}
 use Rattle.checkpoint.specs.Checkpoint.{Checkpoint, sealed}
 use Rattle.protocol.specs.Types.{Origin, Progress, GoingOn, Saved, Restored, Refused}
 use Rattle.protocol.specs.Calls.{Advances, Setup, Event, advanced-by}
-use Rattle.protocol.specs.Journal.{Journal, Draft, Store, erase, word, record-slot, erase-if, stores-of, made, advanced, entered}
 use Rattle.protocol.specs.Operations.{Moved, advance}
+use Rattle.protocol.specs.Journal.{Journal, Draft, Store, erase, word, record-slot, erase-if, stores-of, made, advanced, entered}
 use Rattle.protocol.specs.History.{State, Handed, moved, left-by, step, run, refused, is-stopped, Keeps, Allowed}
 use Rattle.protocol.specs.Recovery.{advances-of}
 use Rattle.protocol.specs.Histories.{stores-left, to-its-end}
@@ -20,8 +20,8 @@ use Rattle.protocol.proofs.Invariant.{Durable-at, Holds, Ended, Moving}
 use Rattle.protocol.proofs.Advances.{call}
 use Rattle.protocol.proofs.Advancing.{advancing}
 use Rattle.protocol.proofs.PowerUps.{Entry}
-use Rattle.protocol.proofs.Blind.{blind}
 use Rattle.protocol.proofs.LastRun.{advances-on, going, stores-some}
+use Rattle.protocol.proofs.Blind.{blind}
 
 -- ---- what one advance leaves
 

@@ -19,15 +19,15 @@ use Rattle.ring.proofs.FoundLaws.{found, pending-is}
 use Rattle.checkpoint.specs.Checkpoint.{Checkpoint, own-tag, sealed}
 use Rattle.checkpoint.specs.Fram.{half-length}
 use Rattle.checkpoint.proofs.SealedLaws.{length-own-tag}
-use Rattle.protocol.specs.Calls.{Saves, Setup, saved}
-use Rattle.protocol.specs.Journal.{entered, saved-entry, Journal, drafted, save-draft}
-use Rattle.protocol.specs.Operations.{key-wrong, nonce-wrong, job-of, save-stop, save-checkpoint, save, stale}
-use Rattle.protocol.specs.History.{State, step, Keeps, left-by, refused}
 use Rattle.protocol.specs.Types.{Save, Session, Job, Words}
-use Rattle.protocol.proofs.Invariant.{Good, Durable-at, Recorded, Holds}
+use Rattle.protocol.specs.Calls.{Saves, Setup, saved}
+use Rattle.protocol.specs.Operations.{key-wrong, nonce-wrong, job-of, save-stop, save-checkpoint, save, stale}
+use Rattle.protocol.specs.Journal.{entered, saved-entry, Journal, drafted, save-draft}
+use Rattle.protocol.specs.History.{State, step, Keeps, left-by, refused}
 use Rattle.protocol.proofs.Facts.{no-fact, passed}
-use Rattle.protocol.proofs.Starts.{started, start-holds, begun-stopped, begun-none, Parts, parts-pass, save-arguments}
+use Rattle.protocol.proofs.Invariant.{Good, Durable-at, Recorded, Holds}
 use Rattle.protocol.proofs.Reading.{reads, nonce-found, target-page-found, target-slot-found, other-half}
+use Rattle.protocol.proofs.Starts.{started, start-holds, begun-stopped, begun-none, Parts, parts-pass, save-arguments}
 
 abbrev pub save-call : Setup → Saves → Saves
 save-call u a = record { arguments = save-arguments u (a .arguments); session = a .session }
@@ -60,7 +60,6 @@ save-passes u ring fram a e =
 -- a ring in use has a checkpoint recorded
 pub in-use-recorded : (u : Setup) (s : State) → Holds u s → is-blank (read-ring (s .ring) (u .sizes .pages) (u .sizes .slots)) ≡ false
     → (c : Checkpoint) × Recorded u (s .ring) (s .fram) (s .nonces) (s .journal .entry) (s .journal .count) (s .journal .owed) (s .journal .power-ups) c
-unfolding is-blank
 in-use-recorded u s inv b = go (inv .durable)
   where
     go : Durable-at u s (s .ring) (s .fram) (s .journal .owed)

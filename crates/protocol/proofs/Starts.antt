@@ -16,11 +16,11 @@ use Rattle.stops.proofs.Laws.{neither}
 use Rattle.checkpoint.specs.Checkpoint.{Checkpoint, sealed, sealed-length, part-wrong}
 use Rattle.checkpoint.specs.Half.{stored}
 use Rattle.checkpoint.specs.Fram.{half-length}
-use Rattle.protocol.specs.Calls.{Setup, SaveArguments}
-use Rattle.protocol.specs.Journal.{Journal, Store, erase, word, record-slot, erase-if, drafted, stores-of}
-use Rattle.protocol.specs.Operations.{job-of, begin, parts-wrong, staging-wrong}
-use Rattle.protocol.specs.History.{State, Handed, begun, is-stop}
 use Rattle.protocol.specs.Types.{Origin, Job, Phase, EraseFirst, Words}
+use Rattle.protocol.specs.Calls.{Setup, SaveArguments}
+use Rattle.protocol.specs.Operations.{job-of, begin, parts-wrong, staging-wrong}
+use Rattle.protocol.specs.Journal.{Journal, Store, erase, word, record-slot, erase-if, drafted, stores-of}
+use Rattle.protocol.specs.History.{State, Handed, begun, is-stop}
 use Rattle.protocol.proofs.Invariant.{Good, length-good, sealed-fits, half-of, page-in, slot-in, owed-page, Durable, Before, last-erase, Doing, Holds}
 use Rattle.protocol.proofs.Advances.{doing-of}
 

@@ -5,17 +5,16 @@ use mathlib.Core.Option.{some}
 use mathlib.Core.List.{List, [], _∷_}
 use lib.Dec.{T}
 use Rattle.checkpoint.specs.Checkpoint.{Checkpoint}
+use Rattle.protocol.specs.Types.{Origin, Save, PowerUp, Phase, EraseFirst, Words, Record, EraseAfter, Done, Progress}
 use Rattle.protocol.specs.Calls.{Advances, Setup, advanced-by}
-use Rattle.protocol.specs.Journal.{Store, to-come}
 use Rattle.protocol.specs.Operations.{finished, advance-stop, advance}
+use Rattle.protocol.specs.Journal.{Store, to-come}
 use Rattle.protocol.specs.History.{State, Handed, step, refused, Keeps}
 use Rattle.protocol.specs.Recovery.{ending, said, Told}
-use Rattle.protocol.specs.Types.{Origin, Save, PowerUp, Phase, EraseFirst, Words, Record, EraseAfter, Done, Progress}
 use Rattle.protocol.proofs.Invariant.{Doing, Holds, Moving, answer-of}
 use Rattle.protocol.proofs.Advances.{call, erasing-first, writing}
 use Rattle.protocol.proofs.Records.{recording}
-use Rattle.protocol.proofs.Advancing.{erasing-after}
-use Rattle.protocol.proofs.Advancing.{done-refused}
+use Rattle.protocol.proofs.Advancing.{erasing-after, done-refused}
 
 same-end : (o : Origin) → finished o ≡ ending o
 unfolding finished ending

@@ -4,19 +4,17 @@ use mathlib.Core.Path.{_≡_}
 use mathlib.Core.Logic.{_⊎_}
 use mathlib.Core.Bool.{Bool, true, false}
 use mathlib.Core.Option.{Option, none, some}
-use mathlib.Core.List.{List, [], _∷_}
-use mathlib.Core.List.{List·Memᴰ}
+use mathlib.Core.List.{List, [], _∷_, List·Memᴰ}
 use lib.ListN.{length}
 use lib.Dec.{T}
-use Rattle.protocol.specs.Calls.{Setup, Event, first-saved, saved, powered-up, advanced-by, PowerLoss, lost-in-store}
-use Rattle.protocol.specs.Journal.{entered}
 use Rattle.octets.specs.Limits.{slot-length}
 use Rattle.octets.specs.Octets.{part, put, erased}
-use Rattle.protocol.specs.Journal.{Journal, empty}
 use Rattle.ring.specs.Ring.{page-put, record-put}
 use Rattle.checkpoint.specs.Fram.{half-length}
-use Rattle.protocol.specs.Operations.{Begin, Moved, first-save, save, power-up, advance, job-record}
 use Rattle.protocol.specs.Types.{Phase, EraseFirst, Words, Record, EraseAfter, Done, Job, Session, Progress, GoingOn, Saved, Restored, Refused, Start, Begun, Stopped}
+use Rattle.protocol.specs.Calls.{Setup, Event, first-saved, saved, powered-up, advanced-by, PowerLoss, lost-in-store}
+use Rattle.protocol.specs.Operations.{Begin, Moved, first-save, save, power-up, advance, job-record}
+use Rattle.protocol.specs.Journal.{entered, Journal, empty}
 
 -- a job that was handed out, with its start's staging buffer
 pub record Handed : Type 0 where

@@ -5,10 +5,10 @@ use mathlib.Core.Option.{Option, none, some}
 use mathlib.Core.List.{List, [], _∷_, _++_}
 use lib.ListN.{length, replicate}
 use lib.Dec.{eqb, ltb}
-use Rattle.protocol.specs.Calls.{Saves, Setup, Event, first-saved, saved, powered-up, advanced-by, PowerLoss, lost-in-store}
 use Rattle.octets.specs.Octets.{blank}
 use Rattle.checkpoint.specs.Checkpoint.{Checkpoint, sealed, own-tag}
 use Rattle.protocol.specs.Types.{Origin, Save, PowerUp}
+use Rattle.protocol.specs.Calls.{Saves, Setup, Event, first-saved, saved, powered-up, advanced-by, PowerLoss, lost-in-store}
 
 pub data Store : Type 0 where
   erase : Store

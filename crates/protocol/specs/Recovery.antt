@@ -3,20 +3,19 @@ use Prim.Native.Nat.{ℕ, zero, suc, _-_, _≤_}
 use mathlib.Core.Path.{_≡_}
 use mathlib.Core.Bool.{Bool, true, false, cond}
 use mathlib.Core.Option.{Option, none, some}
-use mathlib.Core.List.{List, [], _∷_, _++_}
-use mathlib.Core.List.{List·Memᴰ}
+use mathlib.Core.List.{List, [], _∷_, _++_, List·Memᴰ}
 use mathlib.Core.Logic.{_↔_, _⊎_}
 use lib.ListN.{length, replicate, take}
 use lib.Dec.{T}
-use Rattle.protocol.specs.Calls.{PowersUp, Looks, Advances, Setup, Event, first-saved, saved, powered-up, advanced-by, PowerLoss, lost-in-store}
 use Rattle.octets.specs.Limits.{part-limit, restart-limit, key-length, nonce-length}
 use Rattle.octets.specs.Octets.{put, blank}
 use Rattle.ring.specs.Ring.{At, ring-wrong, slot-at, half-named, read-ring}
 use Rattle.checkpoint.specs.Fram.{fram-wrong, half-length, half-at}
 use Rattle.checkpoint.specs.Checkpoint.{Checkpoint, own-tag, sealed}
-use Rattle.protocol.specs.Journal.{Draft, to-come, power-up-draft, stores-of}
 use Rattle.protocol.specs.Types.{Restarts, Unseen, Session, Origin, Save, PowerUp, Progress, GoingOn, Restored, Saved, Refused, Start, Begun, Stopped}
+use Rattle.protocol.specs.Calls.{PowersUp, Looks, Advances, Setup, Event, first-saved, saved, powered-up, advanced-by, PowerLoss, lost-in-store}
 use Rattle.protocol.specs.Operations.{Begin, no-job, first-save-stop, first-save, save-stop, save, power-up-stop, power-up, look, open-stretch, stretch-of, advance-stop, advance, no-session, session-of}
+use Rattle.protocol.specs.Journal.{Draft, to-come, power-up-draft, stores-of}
 use Rattle.protocol.specs.History.{State, Handed, broken-ring, broken-fram, bytes-of, fresh, run, step, is-stop, is-stopped, refused, Keeps, Allowed}
 
 -- ---- each call of a list
