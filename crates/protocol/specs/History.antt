@@ -1,4 +1,4 @@
--- Lists of calls and power losses (document 01, "Runs, cuts and the book"), what they leave in the memories, and the rules that document 01 sets for a list.
+-- Lists of calls and power losses (document 01, "Runs, cuts and the book"; a cut is a power loss): what they leave, and the rules that document 01 sets for them.
 use Prim.Native.Nat.{ℕ, _+_, _*_}
 use mathlib.Core.Path.{_≡_}
 use mathlib.Core.Logic.{_⊎_}
@@ -21,6 +21,7 @@ pub record Handed : Type 0 where
   pub job : Job
   pub staging : List ℕ
 
+-- the memories, the job handed out last, the sessions handed out, the nonces of starts that did not stop, and the journal
 pub record State : Type 0 where
   pub ring : List ℕ
   pub fram : List ℕ
@@ -182,15 +183,19 @@ Left Record j slots left = (left ≡ job-record j) ⊎ (left ≡ erased slot-len
 Left (EraseAfter p) j slots left = length left ≡ slot-length * slots
 Left Done j slots left = ⊥
 
--- a call that does not stop, and a power loss, keep document 01's rules
+-- document 01's rules for a call that does not stop: the unit's sizes and key, a nonce that no start had, a session that the list handed out,
+-- the job handed out last with its start's staging; and for a power loss in a store
 unfoldable pub Keeps : Setup → State → Event → Type 0
 Keeps u s (first-saved a) = (a .arguments .sizes ≡ u .sizes) × (a .arguments .key ≡ u .key) × (List·Memᴰ (a .arguments .nonce) (s .nonces) → ⊥)
-Keeps u s (saved a) = (a .arguments .sizes ≡ u .sizes) × (a .arguments .key ≡ u .key) × (List·Memᴰ (a .arguments .nonce) (s .nonces) → ⊥) × (List·Memᴰ (a .session) (s .sessions))
+Keeps u s (saved a) =
+    (a .arguments .sizes ≡ u .sizes) × (a .arguments .key ≡ u .key) × (List·Memᴰ (a .arguments .nonce) (s .nonces) → ⊥)
+    × (List·Memᴰ (a .session) (s .sessions))
 Keeps u s (powered-up a) = (a .sizes ≡ u .sizes) × (a .key ≡ u .key) × (List·Memᴰ (a .nonce) (s .nonces) → ⊥)
 Keeps u s (advanced-by a) = (a .sizes ≡ u .sizes) × (s .handed ≡ some (record { job = a .job; staging = a .staging }))
 Keeps u s PowerLoss = Unit {0}
 Keeps u s (lost-in-store left) = (h : Handed) × (s .handed ≡ some h) × Left (h .job .phase) (h .job) (u .sizes .slots) left
 
+-- a refused call may be given anything besides the memories
 unfoldable pub Allowed : Setup → State → List Event → Type 0
 Allowed u s [] = Unit {0}
 Allowed u s (e ∷ more) = ((T (refused s e)) ⊎ Keeps u s e) × Allowed u (step u s e) more
