@@ -12,7 +12,7 @@ use Rattle.checkpoint.specs.Fram.{fram-wrong}
 use Rattle.protocol.specs.Calls.{Setup, Event, first-saved, saved, powered-up, advanced-by, PowerLoss, lost-in-store}
 use Rattle.protocol.specs.Journal.{empty}
 use Rattle.protocol.specs.History.{State, fresh, step, run, refused, Keeps, Allowed}
-use Rattle.protocol.specs.Recovery.{Follows, Exactly}
+use Rattle.protocol.specs.Recovery.{Follows, Exactly, Uninterrupted}
 use Rattle.protocol.proofs.Invariant.{Holds}
 use Rattle.protocol.proofs.Refused.{step-refused}
 use Rattle.protocol.proofs.Exact.{exact}
@@ -51,6 +51,16 @@ pub exactly : (u : Setup) (events : List Event) (s : State) → Holds u s → Al
 unfolding Exactly Allowed
 exactly u [] s inv k = tt
 exactly u (e ∷ more) s inv k = (exact s e, tells u s e inv, exactly u more (step u s e) (hold-step u s e inv (k .0)) (k .1))
+
+-- refused calls and advances of the job handed out last are allowed
+uninterrupted-allowed : (u : Setup) (events : List Event) (s : State) → Uninterrupted u s events → Allowed u s events
+unfolding Uninterrupted Allowed
+uninterrupted-allowed u [] s k = tt
+uninterrupted-allowed u (e ∷ more) s (inl r, k) = (inl r, uninterrupted-allowed u more (step u s e) k)
+uninterrupted-allowed u (e ∷ more) s (inr (t, p), k) = (inr p, uninterrupted-allowed u more (step u s e) k)
+
+pub exactly-uninterrupted : (u : Setup) (events : List Event) (s : State) → Holds u s → Uninterrupted u s events → Exactly u s events
+exactly-uninterrupted u events s inv k = exactly u events s inv (uninterrupted-allowed u events s k)
 
 -- with memories that don't fit
 pub exactly-unfit : (u : Setup) (events : List Event) (s : State) → Unfit u s → Allowed u s events → Exactly u s events

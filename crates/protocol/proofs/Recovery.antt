@@ -27,7 +27,7 @@ use Rattle.protocol.proofs.Invariant.{draft-of, DurableAt, Untouched, H
 use Rattle.protocol.proofs.Reading.{reads, new-nonce, head-found, tag-found, restarts-found}
 use Rattle.protocol.proofs.Starts.{started}
 use Rattle.protocol.proofs.PowerUps.{power-call, Entry, resuming-job, power-up-is, resuming-holds, step-is}
-use Rattle.protocol.proofs.Lists.{hold-run, exactly, exactly-unfit, hold-fresh}
+use Rattle.protocol.proofs.Lists.{hold-run, exactly, exactly-uninterrupted, exactly-unfit, hold-fresh}
 use Rattle.protocol.proofs.LastRun.{ends, runs-on, answering, stores-some, answers-end}
 use Rattle.protocol.proofs.Looking.{seen}
 
@@ -113,7 +113,7 @@ module _ (u : Setup) (s : State) (inv : Holds u s) (a : PowersUp) (key-long : le
       runs = runs-on u new stores t (record { job = resuming-job u s new; staging = put (a .staging) 0 (sealed (u .key) new) }) holds (ap (λ (y : State). y .handed) is) draft;
       ends = λ events k n.
           let x = ends u new events t holds stores draft (λ q. no-end q) (answers u events t) (answering u events t k) n in
-          (answers-end stores (answers u events t) (y .0) (y .1) (y .2) (x .0) n, x .1);
+          (answers-end stores (answers u events t) (y .0) (y .1) (y .2) (x .0) n, exactly-uninterrupted u events t holds k, x .1);
     }
       where
         new : Checkpoint

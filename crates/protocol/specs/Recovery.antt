@@ -162,8 +162,10 @@ pub record Stands (u : Setup) (t : State) (new : Checkpoint) : Type 0 where
 pub record Resumes (u : Setup) (s : State) (a : PowersUp) (c : Checkpoint) : Type 0 where
   pub begins : power-up (s .ring) (s .fram) a .answer ≡ Begun
   pub length-answered : power-up (s .ring) (s .fram) a .secret-length ≡ length (c .secret)
+  -- no operation but power-up is lent a state buffer, and a power-up that stops leaves its own as it was: this still holds at 'restored'
   pub restored : power-up (s .ring) (s .fram) a .state ≡ put (a .state) 0 (c .secret)
-  -- one advance for each store to come, with only refused calls between, runs it to its end, and every such run ends so
+  -- one advance for each store to come, with only refused calls between, runs it to its end, and every such run ends so;
+  -- each of its calls stops exactly where demand 1 says, a stop leaves every buffer, and an advance makes one store
   pub runs :
       let t = step u s (powered-up a) in
       let n = length (stores-of (u .key) (u .sizes .slots) (s .journal) (power-up-draft (u .key) (a .nonce) c)) in
@@ -172,7 +174,8 @@ pub record Resumes (u : Setup) (s : State) (a : PowersUp) (c : Checkpoint) : Typ
       let t = step u s (powered-up a) in
       let n = length (stores-of (u .key) (u .sizes .slots) (s .journal) (power-up-draft (u .key) (a .nonce) c)) in
       (events : List Event) → Uninterrupted u t events → length (answers u events t) ≡ n
-      → (answers u events t ≡ replicate (n - 1) GoingOn ++ Restored ∷ []) × Stands u (run u t events) (power-up-draft (u .key) (a .nonce) c)
+      → (answers u events t ≡ replicate (n - 1) GoingOn ++ Restored ∷ []) × Exactly u t events
+      × Stands u (run u t events) (power-up-draft (u .key) (a .nonce) c)
 
 pub record Outcome (u : Setup) (s : State) (a : PowersUp) : Type 0 where
   pub nothing : (power-up (s .ring) (s .fram) a .answer ≡ Stopped 6) ↔ (s .journal .entry ≡ none)
