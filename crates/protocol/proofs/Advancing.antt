@@ -113,7 +113,7 @@ phase-passes j z ring fram e =
     neither (not (eqb (j .length % 4) 0) || ltb (j .length) empty-length || ltb (half-length fram) (j .length) ||
     leb (z .pages) (j .page) || leb (z .slots) (j .slot) || ltb 1 (j .half)) (phase-wrong (j .phase) j z ring) e .1
 
-job-passes : (ring fram : List ℕ) (a : Advances) → advance-stop ring fram a ≡ none → job-wrong (a .job) (a .sizes) ring fram ≡ false
+pub job-passes : (ring fram : List ℕ) (a : Advances) → advance-stop ring fram a ≡ none → job-wrong (a .job) (a .sizes) ring fram ≡ false
 unfolding advance-stop
 job-passes ring fram a e = passes _ e .1 .1 .1 .0
 

@@ -1,4 +1,4 @@
--- The proof of the theorem Recovery, from what holds after every list to the theorem.
+-- The proof of the theorem Recovery, from what holds after every list to the theorem, and laws of the operations beside it.
 pub mod Facts
 pub mod Invariant
 pub mod Reading
@@ -18,6 +18,8 @@ pub mod Lists
 pub mod LastRun
 pub mod Looking
 pub mod Recovery
+pub mod FreeResults
+pub mod Sequence
 pub mod Blind
 pub mod Runs
 pub mod Histories

@@ -49,6 +49,7 @@ pub record Begin : Type 0 where
   pub staging : List ℕ
   pub state : List ℕ
 
+-- the job beside a stop of a start, which document 01 leaves free, as it does the length 0; an advance of it always stops (proofs/FreeResults.antt)
 unfoldable pub no-job : Job
 no-job = record { phase = Done; origin = Save; half = 0; length = 0; page = 0; slot = 0; nonce = replicate nonce-length 0; tag = replicate tag-length 0 }
 
@@ -217,6 +218,7 @@ job-record j = record-of (j .nonce) (j .half)
 unfoldable pub session-of : Job → Session
 session-of j = record { page = j .page; slot = j .slot; latest = job-record j; tag = j .tag }
 
+-- the session beside 'going on' or a refusal, which document 01 leaves free; a save with it always stops (proofs/FreeResults.antt)
 unfoldable pub no-session : Session
 no-session = record { page = 0; slot = 0; latest = replicate slot-length 0; tag = replicate tag-length 0 }
 
