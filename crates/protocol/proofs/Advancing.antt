@@ -66,7 +66,7 @@ module _ (u : Setup) (s : State) (h : Handed) (inv : Holds u s) where
           × DurableAt u s ring (s .fram) false
       d = erased-durable u s p inv (x .owed) (x .page-is)
 
-same-draft : (o : Option Draft) (d e : Draft) → o ≡ some d → o ≡ some e → d ≡ e
+pub same-draft : (o : Option Draft) (d e : Draft) → o ≡ some d → o ≡ some e → d ≡ e
 same-draft o d e p q = cc
 
 same-rest : (d e : Draft) (x y : Store) (rest more : List Store) → d ≡ e → d .stores ≡ x ∷ rest → e .stores ≡ y ∷ more → rest ≡ more

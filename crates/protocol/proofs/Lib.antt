@@ -22,4 +22,5 @@ pub mod FreeResults
 pub mod Sequence
 pub mod Blind
 pub mod Runs
+pub mod Interrupted
 pub mod Histories

@@ -55,7 +55,7 @@ to-come-erase true = refl
 to-come-erase false = refl
 
 -- the journal after a power loss in an erase
-lost-erase : (j : Journal) (c : Checkpoint) (origin : Origin) (rest : List Store) (left : List ℕ)
+pub lost-erase : (j : Journal) (c : Checkpoint) (origin : Origin) (rest : List Store) (left : List ℕ)
     → j .draft ≡ some (draft-of c origin (erase ∷ rest)) → j .owed ≡ true
     → lost-into j (j .draft) left ≡ record { entry = j .entry; count = j .count; owed = not (blank left); power-ups = j .power-ups; draft = none }
 unfolding lost-into whole made dropped

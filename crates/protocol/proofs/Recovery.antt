@@ -93,7 +93,7 @@ module _ (u : Setup) (s : State) (inv : Holds u s) (a : PowersUp) (key-long : le
     pub stop-none : stop ≡ none
     stop-none = stop-recorded c r ∙ ap (λ (b : Bool). cond b (some 13) none) (ne-eqb (c .restarts) restart-limit few)
 
-    power-up-begins : power-up (s .ring) (s .fram) (power-call u a) ≡ record {
+    pub power-up-begins : power-up (s .ring) (s .fram) (power-call u a) ≡ record {
       answer = Begun;
       job = resuming-job u s (power-up-draft (u .key) (a .nonce) c);
       secret-length = length (c .secret);

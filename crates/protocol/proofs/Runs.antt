@@ -4,7 +4,7 @@ use mathlib.Core.Path.{_≡_, refl, sym, ap, subst, _∙_}
 use mathlib.Core.Bool.{Bool, true, false, cond, _&&_}
 use mathlib.Core.Logic.{inl, inr}
 use mathlib.Core.Option.{Option, some}
-use mathlib.Core.List.{List, [], _∷_, _++_}
+use mathlib.Core.List.{List, [], _∷_, _++_, append-nil}
 use native.Mathlib.Omega.{arith}
 use lib.ListN.{length, replicate}
 use lib.Dec.{eqb, ltb}
@@ -49,51 +49,59 @@ records-in (erase ∷ rest) = records-in rest
 records-in (word ∷ rest) = records-in rest
 records-in (record-slot ∷ rest) = suc (records-in rest)
 
-made-count : (j : Journal) (d : Draft) (x : Store) (rest : List Store) → made j d (x ∷ rest) .count + records-in rest ≡ j .count + records-in (x ∷ rest)
+made-count : (j : Journal) (d : Draft) (x : Store) (first rest : List Store) → made j d (x ∷ rest) .count + records-in first ≡ j .count + records-in (x ∷ first)
 unfolding made
-made-count j d erase rest = refl
-made-count j d word rest = refl
-made-count j d record-slot rest = omega arith
+made-count j d erase first rest = refl
+made-count j d word first rest = refl
+made-count j d record-slot first rest = omega arith
 
--- ---- every store of a draft made
+-- ---- the first stores of a draft made, and `rest` left
 
-pub record Finished (u : Setup) (t : State) (c : Checkpoint) (events : List Event) (records : ℕ) : Type 0 where
+pub record Made (u : Setup) (t : State) (c : Checkpoint) (origin : Origin) (events : List Event) (records : ℕ) (rest : List Store) : Type 0 where
   pub allowed : Allowed u t events
   pub holds : Holds u (run u t events)
-  pub ended : Ended u (run u t events) c
+  pub draft-is : run u t events .journal .draft ≡ some (draft-of c origin rest)
+  pub handed : Handed
+  pub handed-is : run u t events .handed ≡ some handed
+  pub ended : rest ≡ [] → Ended u (run u t events) c
   pub count : run u t events .journal .count ≡ t .journal .count + records
   pub nonces : run u t events .nonces ≡ t .nonces
 
-module _ (u : Setup) (c : Checkpoint) (origin : Origin) where
-  more-made : (x : Store) (rest : List Store) (t : State) (h : Handed) → t .handed ≡ some h → t .journal .draft ≡ some (draft-of c origin (x ∷ rest))
-      → Moves u t h c origin rest
-      → Finished u (step u t (advanced-by (call u h))) c (advances-of u (length rest) (step u t (advanced-by (call u h)))) (records-in rest)
-      → Finished u t c (advanced-by (call u h) ∷ advances-of u (length rest) (step u t (advanced-by (call u h)))) (records-in (x ∷ rest))
+module _ (u : Setup) (c : Checkpoint) (origin : Origin) (rest : List Store) where
+  more-made : (x : Store) (first : List Store) (t : State) (h : Handed) → t .handed ≡ some h → t .journal .draft ≡ some (draft-of c origin (x ∷ (first ++ rest)))
+      → Moves u t h c origin (first ++ rest)
+      → Made u (step u t (advanced-by (call u h))) c origin (advances-of u (length first) (step u t (advanced-by (call u h)))) (records-in first) rest
+      → Made u t c origin (advanced-by (call u h) ∷ advances-of u (length first) (step u t (advanced-by (call u h)))) (records-in (x ∷ first)) rest
   unfolding Allowed run Keeps refused advanced
-  more-made x rest t h e d m more =
-      let r : is-stopped (advance (t .ring) (t .fram) (call u h) .progress) ≡ false = ap is-stopped (m .answered) ∙ going origin rest in
-      let j : step u t (advanced-by (call u h)) .journal ≡ made (t .journal) (draft-of c origin (x ∷ rest)) (x ∷ rest) =
+  more-made x first t h e d m more =
+      let r : is-stopped (advance (t .ring) (t .fram) (call u h) .progress) ≡ false = ap is-stopped (m .answered) ∙ going origin (first ++ rest) in
+      let j : step u t (advanced-by (call u h)) .journal ≡ made (t .journal) (draft-of c origin (x ∷ (first ++ rest))) (x ∷ (first ++ rest)) =
       advance-journal u t (call u h) r ∙ ap (λ (o : Option Draft). advanced (t .journal) o) d in
       record {
         allowed = (inr (refl, e), more .allowed);
         holds = more .holds;
+        draft-is = more .draft-is;
+        handed = more .handed;
+        handed-is = more .handed-is;
         ended = more .ended;
-        count = more .count ∙ ap (λ (k : Journal). k .count + records-in rest) j ∙ made-count (t .journal) (draft-of c origin (x ∷ rest)) x rest;
+        count = more .count ∙ ap (λ (k : Journal). k .count + records-in first) j
+            ∙ made-count (t .journal) (draft-of c origin (x ∷ (first ++ rest))) x first (first ++ rest);
         nonces = more .nonces ∙ advance-nonces u t (call u h);
       }
 
-  pub finish : (stores : List Store) (t : State) (h : Handed) → Holds u t → t .handed ≡ some h → t .journal .draft ≡ some (draft-of c origin stores)
-      → (stores ≡ [] → Ended u t c) → Finished u t c (advances-of u (length stores) t) (records-in stores)
+  pub made-first : (first : List Store) (t : State) (h : Handed) → Holds u t → t .handed ≡ some h → t .journal .draft ≡ some (draft-of c origin (first ++ rest))
+      → (first ++ rest ≡ [] → Ended u t c) → Made u t c origin (advances-of u (length first) t) (records-in first) rest
   unfolding Allowed run advances-of
-  finish [] t h inv e d f = record { allowed = tt; holds = inv; ended = f refl; count = omega arith; nonces = refl }
-  finish (x ∷ rest) t h inv e d f =
-      let m = advancing u t h inv c origin x rest d e in
-      let more = finish rest (step u t (advanced-by (call u h))) (m .handed) (m .holds) (m .handed-is) (m .draft-is) (m .ended) in
-      subst (λ (events : List Event). Finished u t c events (records-in (x ∷ rest))) (sym (advances-on u (length rest) t h e)) (more-made x rest t h e d m more)
+  made-first [] t h inv e d f =
+      record { allowed = tt; holds = inv; draft-is = d; handed = h; handed-is = e; ended = f; count = omega arith; nonces = refl }
+  made-first (x ∷ first) t h inv e d f =
+      let m = advancing u t h inv c origin x (first ++ rest) d e in
+      let more = made-first first (step u t (advanced-by (call u h))) (m .handed) (m .holds) (m .handed-is) (m .draft-is) (m .ended) in
+      subst (λ (events : List Event). Made u t c origin events (records-in (x ∷ first)) rest) (sym (advances-on u (length first) t h e)) (more-made x first t h e d m more)
 
 -- ---- a start's stores hold one record
 
-one-record : (a b : Bool) (n : ℕ) → records-in (erase-if a ++ replicate n word ++ record-slot ∷ erase-if b) ≡ 1
+pub one-record : (a b : Bool) (n : ℕ) → records-in (erase-if a ++ replicate n word ++ record-slot ∷ erase-if b) ≡ 1
 unfolding erase-if
 one-record true true zero = refl
 one-record true false zero = refl
@@ -127,7 +135,7 @@ whole u s e c origin nonce h k inv q d n m =
     (record {
       allowed = (inr k, f .allowed);
       holds = f .holds;
-      ended = f .ended;
+      ended = f .ended refl;
       count = f .count ∙ (λ i. n i + stores-record (u .key) (u .sizes .slots) (s .journal) c i);
       nonces = f .nonces ∙ m;
     })
@@ -135,10 +143,10 @@ whole u s e c origin nonce h k inv q d n m =
     stores : List Store
     stores = stores-of (u .key) (u .sizes .slots) (s .journal) c
 
-    f : Finished u (step u s e) c (advances-of u (length stores) (step u s e)) (records-in stores)
-    f = finish u c origin stores (step u s e) h inv q d
+    f : Made u (step u s e) c origin (advances-of u (length stores) (step u s e)) (records-in stores) []
+    f = made-first u c origin [] stores (step u s e) h inv q (d ∙ ap (λ (l : List Store). some (draft-of c origin l)) (sym (append-nil stores)))
         (λ z. absurd (let y = stores-some (u .key) (u .sizes .slots) (s .journal) c in
-        let a = ap (λ (l : List Store). length l) (y .2) in let b = ap (λ (l : List Store). length l) z in omega arith))
+        let a = ap (λ (l : List Store). length l) (y .2) in let b = ap (λ (l : List Store). length l) (sym (append-nil stores) ∙ z) in omega arith))
 
 -- lists one after the other
 pub run-append : (u : Setup) (xs ys : List Event) (s : State) → run u s (xs ++ ys) ≡ run u (run u s xs) ys
@@ -151,17 +159,11 @@ unfolding run Allowed
 allowed-append u [] ys s k l = l
 allowed-append u (e ∷ xs) ys s (k, m) l = (k, allowed-append u xs ys (step u s e) m l)
 
--- ---- the state that such a list leaves
+-- ---- the journal's entry is recorded
 
--- c is recorded, and no erase is owed
-pub record Rests (u : Setup) (s : State) (c : Checkpoint) : Type 0 where
-  pub holds : Holds u s
-  pub entry : Entry u s c
-  pub ended : Ended u s c
-
-pub rests : (u : Setup) (s : State) (c : Checkpoint) → Holds u s → Ended u s c → Rests u s c
-rests u s c inv x = go (inv .durable)
+pub recorded-entry : (u : Setup) (s : State) (c : Checkpoint) → Holds u s → s .journal .entry ≡ some c → Entry u s c
+recorded-entry u s c inv e = go (inv .durable)
   where
-    go : DurableAt u s (s .ring) (s .fram) (s .journal .owed) → Rests u s c
-    go (inl y) = absurd (let p = y .no-entry in let e = x .entry in let z : _≡_ {A = ℕ} 0 1 = cc in omega arith)
-    go (inr (d, r)) = let p = r .entry-is in let e = x .entry in let q : d ≡ c = cc in record { holds = inv; entry = subst (λ (y : Checkpoint). Entry u s y) q r; ended = x }
+    go : DurableAt u s (s .ring) (s .fram) (s .journal .owed) → Entry u s c
+    go (inl y) = absurd (let p = y .no-entry in let z : _≡_ {A = ℕ} 0 1 = cc in omega arith)
+    go (inr (d, r)) = let p = r .entry-is in let q : d ≡ c = cc in subst (λ (y : Checkpoint). Entry u s y) q r

@@ -1,5 +1,6 @@
--- The theorem's premises can be met: every unit has lists that record as many checkpoints as one likes, and up to eight power-ups in a row.
-use Prim.Native.Nat.{ℕ, zero, suc, _+_, _*_, _/_, _%_, _^_, _≤_, _<_}
+-- The theorem's premises can be met: every unit has lists that record as many checkpoints as one likes, and up to eight power-ups in a row,
+-- and there is one with a power loss in an erase.
+use Prim.Native.Nat.{ℕ, zero, suc, _+_, _-_, _*_, _/_, _%_, _^_, _≤_, _<_}
 use mathlib.Core.Path.{_≡_}
 use mathlib.Core.Bool.{true}
 use mathlib.Core.Option.{Option, none, some}
@@ -7,9 +8,10 @@ use mathlib.Core.List.{List, [], _∷_, _++_}
 use lib.ListN.{length, replicate}
 use Rattle.octets.specs.Limits.{pages-least, slots-least, slot-length, fram-least, fram-limit, key-length, part-limit, restart-limit, nonce-length, tag-length}
 use Rattle.octets.specs.Octets.{blank, erased, bytes}
-use Rattle.ring.specs.Ring.{At, read-ring}
-use Rattle.protocol.specs.Types.{Session}
-use Rattle.protocol.specs.Calls.{SaveArguments, FirstSave, Saves, PowersUp, Setup, Event, first-saved, saved, powered-up}
+use Rattle.ring.specs.Ring.{At, AtPending, read-ring}
+use Rattle.protocol.specs.Types.{Session, EraseFirst}
+use Rattle.protocol.specs.Calls.{SaveArguments, FirstSave, Saves, PowersUp, Setup, Event, first-saved, saved, powered-up, lost-in-store}
+use Rattle.protocol.specs.Operations.{power-up}
 use Rattle.protocol.specs.Journal.{Draft}
 use Rattle.protocol.specs.History.{State, fresh, step, run, Allowed}
 use Rattle.protocol.specs.Recovery.{advances-of, Fits}
@@ -83,7 +85,7 @@ Reachable =
     (u : Setup) (ring fram : List ℕ) → blank ring ≡ true → Fits u ring fram
     → (n k : ℕ) → k ≤ restart-limit → n + k + 1 < 2 ^ 96 → Reached u (fresh ring fram) (history u (fresh ring fram) n k) n k
 
--- ---- two lists of the smallest unit
+-- ---- three lists of the smallest unit
 
 unfoldable pub smallest : Setup
 smallest = record { sizes = record { pages = pages-least; slots = slots-least }; key = replicate key-length 0 }
@@ -92,6 +94,27 @@ smallest = record { sizes = record { pages = pages-least; slots = slots-least };
 unfoldable pub bench-state : State
 bench-state = fresh (erased (slot-length * 6)) (replicate fram-least 0)
 
--- eight power-ups in a row after the first save; and six saves after it, so that the seventh record is the first of the second round
+-- a start, and then an advance for each store to come but the last, in which the power fails and leaves `left`
+unfoldable pub but-the-last : Setup → State → Event → List ℕ → List Event
+but-the-last u s e left = let t = step u s e in (e ∷ advances-of u (stores-left (t .journal .draft) - 1) t) ++ lost-in-store left ∷ []
+
+-- a first save and two saves; the third record is the first of page 1, and the power fails in the erase of page 0 after it, which leaves zeros
+unfoldable pub interrupted : List Event
+interrupted =
+    let two = history smallest bench-state 1 0 in
+    let s = run smallest bench-state two in
+    two ++ with-session (s .sessions) (λ z. but-the-last smallest s (saved (numbered-save smallest 2 z)) (replicate (slot-length * slots-least) 0))
+
+-- page 0 is then pending; a power-up erases it first, and run to its end leaves its own record behind the third
+pub record Interrupted : Type 0 where
+  pub pending : read-ring (run smallest bench-state interrupted .ring) pages-least slots-least ≡ AtPending 1 0
+  pub erases-first : let s = run smallest bench-state interrupted in power-up (s .ring) (s .fram) (numbered-power-up smallest 3) .job .phase ≡ EraseFirst 0
+  pub allowed : Allowed smallest bench-state (interrupted ++ to-its-end smallest (run smallest bench-state interrupted) (powered-up (numbered-power-up smallest 3)))
+  pub newest :
+      let events = to-its-end smallest (run smallest bench-state interrupted) (powered-up (numbered-power-up smallest 3)) in
+      read-ring (run smallest bench-state (interrupted ++ events) .ring) pages-least slots-least ≡ At 1 1
+
+-- eight power-ups in a row after the first save; six saves after it, so that the seventh record is the first of the second round; and a power loss
 unfoldable pub Examples : Type 0
-Examples = Reached smallest bench-state (history smallest bench-state 0 8) 0 8 × Reached smallest bench-state (history smallest bench-state 6 0) 6 0
+Examples =
+    Reached smallest bench-state (history smallest bench-state 0 8) 0 8 × Reached smallest bench-state (history smallest bench-state 6 0) 6 0 × Interrupted
