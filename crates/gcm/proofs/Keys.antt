@@ -17,7 +17,7 @@ pub key-length : (n : ℕ) → n ≡ 32 → KeyLength n
 key-length n e = record { at-least = omega arith; at-most = omega arith; whole = omega arith }
 
 module _ (key w : List ℕ) (rounds : ℕ) (long : KeyLength (length key)) (made : w ≡ round-keys key) (many : rounds ≡ length key / 4 + 6) where
-  under : cipher rounds w ≡ aes key
+  pub under : cipher rounds w ≡ aes key
   under = λ i block. (ap₂ (λ (n : ℕ) (x : List ℕ). cipher n x block) many made ∙ aes-is key block long) i
 
   pub text-is : (nonce text : List ℕ) → AE-text (cipher rounds w) nonce text ≡ encrypted key nonce text
