@@ -1,3 +1,4 @@
 -- Laws of the views and of the operations' conditions.
 pub mod ViewLaws
 pub mod AdvanceLaws
+pub mod LookLaws

@@ -2,10 +2,13 @@
 mod advance;
 mod buffers;
 mod job;
+mod looking;
 mod memories;
 mod types;
 
 pub use buffers::wipe;
+pub use looking::look;
+pub use looking::open_part;
 pub use types::Advanced;
 pub use types::Job;
 pub use types::Looked;

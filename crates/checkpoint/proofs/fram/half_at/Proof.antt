@@ -1,6 +1,5 @@
 -- `checkpoint::fram::half_at` meets its contract. Assumes nothing.
 use native.Mathlib.Omega.{arith}
-use borrow.Author.Needs.{needs}
 use Rattle.checkpoint.specs.Fram.{half-length, half-at}
 use Rattle.checkpoint.proofs.FramLaws.{half-within}
 use Rattle.checkpoint.proofs.fram.half_at.Statement.{statement}

@@ -9,8 +9,7 @@ use Rattle.checkpoint.proofs.under.seal_under.Tie as tie
 seal-requires : tie.Need-seal-requires
 seal-requires c κs =
     let start = c .before .before .before .before .before .before .before .before .before .before .before .before .before .before .before in
-    let long = start .pre .0 in
-    (
+    let long = start .pre .0 in (
       (c .before .before .before .before .before .before .before .before .round-table .ensures, omega arith, omega arith, c .before .before .before .before .hash-steps .ensures),
       start .pre .1,
       start .pre .2,
