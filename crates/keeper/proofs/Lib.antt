@@ -2,3 +2,4 @@
 pub mod ViewLaws
 pub mod AdvanceLaws
 pub mod LookLaws
+pub mod SaveLaws

@@ -21,7 +21,8 @@ use Rattle.checkpoint.specs.Half.{good-head, good-tag, open-length, stored-rest
 use Rattle.protocol.specs.Types.{Restarts, Unseen}
 use Rattle.protocol.specs.Operations.{newest-half, look-stop, look, look-by, open-stretch, stretch-by, stretch-of}
 use Rattle.keeper.specs.View.{looks}
-use Rattle.keeper.specs.Seen.{look-buffers, Finds}
+use Rattle.keeper.specs.Stages.{look-buffers}
+use Rattle.keeper.specs.Seen.{Finds}
 use Rattle.keeper.specs.declared.looking.Seen.{Seen}
 
 -- a stop is not none

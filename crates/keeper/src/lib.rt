@@ -4,11 +4,13 @@ mod buffers;
 mod job;
 mod looking;
 mod memories;
+mod saves;
 mod types;
 
 pub use buffers::wipe;
 pub use looking::look;
 pub use looking::open_part;
+pub use saves::first_save;
 pub use types::Advanced;
 pub use types::Job;
 pub use types::Looked;

@@ -27,7 +27,8 @@ ghost use Rattle.checkpoint.specs.Fram.{fram-wrong, half-at};
 ghost use Rattle.checkpoint.specs.Half.{open-length, secret-length, stored-restarts, good-head, good-tag};
 ghost use Rattle.protocol.specs.Operations.{look-stop, look, open-stretch, stretch-of};
 ghost use Rattle.keeper.specs.View.{view-looked, looks};
-ghost use Rattle.keeper.specs.Seen.{look-buffers, Finds};
+ghost use Rattle.keeper.specs.Stages.{look-buffers};
+ghost use Rattle.keeper.specs.Seen.{Finds};
 
 // What look sees: why it stops, or the newest checkpoint's half, its open part's length in bytes and its restarts.
 struct Seen {

@@ -12,7 +12,7 @@ use Rattle.stops.proofs.Laws.{tried, first-append}
 use Rattle.ring.specs.Ring.{ring-wrong}
 use Rattle.checkpoint.specs.Fram.{fram-wrong}
 use Rattle.gcm.specs.Calls.{key-wrong}
-use Rattle.keeper.specs.Seen.{look-buffers}
+use Rattle.keeper.specs.Stages.{look-buffers}
 use Rattle.keeper.proofs.LookLaws.{stopped-not-none, buffers-stop}
 use Rattle.keeper.proofs.looking.see.Statement.{statement}
 use Rattle.keeper.proofs.looking.see.Tie as tie
