@@ -3,3 +3,5 @@ pub mod ViewLaws
 pub mod AdvanceLaws
 pub mod LookLaws
 pub mod SaveLaws
+pub mod ResumeLaws
+pub mod PowerUpLaws

@@ -2,3 +2,4 @@
 pub mod View
 pub mod Stages
 pub mod Seen
+pub mod Resealing

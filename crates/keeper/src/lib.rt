@@ -4,12 +4,14 @@ mod buffers;
 mod job;
 mod looking;
 mod memories;
+mod resuming;
 mod saves;
 mod types;
 
 pub use buffers::wipe;
 pub use looking::look;
 pub use looking::open_part;
+pub use resuming::power_up;
 pub use saves::first_save;
 pub use types::Advanced;
 pub use types::Job;
