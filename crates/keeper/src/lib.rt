@@ -2,10 +2,12 @@
 mod advance;
 mod buffers;
 mod job;
+mod lent;
 mod memories;
 mod types;
 
 pub use buffers::wipe;
+pub use lent::advance_lent;
 pub use types::Advanced;
 pub use types::Job;
 pub use types::Looked;
