@@ -8,6 +8,7 @@ use native.Mathlib.Omega.{arith}
 use borrow.Author.Tests.{eqb-true, ltb-false}
 use lib.Dec.{eqb, ltb}
 use lib.ListN.{length}
+use Rattle.octets.specs.Limits.{key-length, nonce-length, text-limit}
 use Rattle.octets.specs.Octets.{same}
 use Rattle.stops.specs.Stops.{first-of, then-stop}
 use Rattle.stops.proofs.Laws.{tried, tried-first, first-append, passes, neither}
@@ -21,10 +22,10 @@ two-tried m n a b ho hp = hp ∙ ap (λ (q : Option ℕ). then-stop q n b) ho �
 
 -- lengths that pass
 pub record Fit (key nonce aad text out : ℕ) : Type 0 where
-  pub key-32 : key ≡ 32
-  pub nonce-12 : nonce ≡ 12
-  pub aad-fits : aad ≤ 65536
-  pub text-fits : text ≤ 65536
+  pub key-fits : key ≡ key-length
+  pub nonce-fits : nonce ≡ nonce-length
+  pub aad-fits : aad ≤ text-limit
+  pub text-fits : text ≤ text-limit
   pub out-holds : text ≤ out
 
 no-not : (b : Bool) → not b ≡ false → b ≡ true
@@ -33,13 +34,13 @@ no-not false e = let z : _≡_ {A = ℕ} 0 1 = cc in absurd (omega arith)
 
 fitting : (key nonce aad text out : ℕ) → key-wrong key ≡ false → nonce-wrong nonce ≡ false → buffers-wrong aad text out ≡ false → Fit key nonce aad text out
 fitting key nonce aad text out k n b =
-    let last = neither (ltb 65536 aad || ltb 65536 text) (ltb out text) b in
-    let first = neither (ltb 65536 aad) (ltb 65536 text) (last .0) in
+    let last = neither (ltb text-limit aad || ltb text-limit text) (ltb out text) b in
+    let first = neither (ltb text-limit aad) (ltb text-limit text) (last .0) in
     record {
-      key-32 = eqb-true key 32 (no-not (eqb key 32) k);
-      nonce-12 = eqb-true nonce 12 (no-not (eqb nonce 12) n);
-      aad-fits = ltb-false 65536 aad (first .0);
-      text-fits = ltb-false 65536 text (first .1);
+      key-fits = eqb-true key key-length (no-not (eqb key key-length) k);
+      nonce-fits = eqb-true nonce nonce-length (no-not (eqb nonce nonce-length) n);
+      aad-fits = ltb-false text-limit aad (first .0);
+      text-fits = ltb-false text-limit text (first .1);
       out-holds = ltb-false out text (last .1);
     }
 
