@@ -9,11 +9,9 @@ use borrow.Author.Tests.{eqb-true, ltb-false}
 use lib.Dec.{eqb, ltb}
 use lib.ListN.{length}
 use Rattle.octets.specs.Limits.{key-length, nonce-length, text-limit}
-use Rattle.octets.specs.Octets.{same}
 use Rattle.stops.specs.Stops.{first-of, then-stop}
 use Rattle.stops.proofs.Laws.{tried, tried-first, first-append, passes, neither}
-use Rattle.gcm.specs.Gcm.{tag}
-use Rattle.gcm.specs.Calls.{key-wrong, nonce-wrong, tag-wrong, buffers-wrong, seal-stop, open-length-stop, open-stop}
+use Rattle.gcm.specs.Calls.{key-wrong, nonce-wrong, tag-wrong, buffers-wrong, seal-stop, open-length-rows, tag-row, open-length-stop, open-stop}
 
 -- two conditions tried one after the other
 pub two-tried : (m n : ℕ) (a b : Bool) {o p : Option ℕ} → o ≡ then-stop none m a → p ≡ then-stop o n b → p ≡ first-of ((m, a) ∷ (n, b) ∷ [])
@@ -55,17 +53,14 @@ module _ (key nonce aad text given out : ℕ) (e : open-length-stop key nonce aa
   pub open-fits : Fit key nonce aad text out
   unfolding open-length-stop
   open-fits =
-      let p = passes ((3, key-wrong key || nonce-wrong nonce || tag-wrong given) ∷ (4, buffers-wrong aad text out) ∷ []) e in
+      let p = passes (open-length-rows key nonce aad text given out) e in
       let q = neither (key-wrong key || nonce-wrong nonce) (tag-wrong given) (p .0) in
       let r = neither (key-wrong key) (nonce-wrong nonce) (q .0) in
       fitting key nonce aad text out (r .0) (r .1) (p .1 .0)
 
 -- the tag is looked at where the lengths pass
 pub open-stop-is : (key nonce aad text given out : List ℕ) {o : Option ℕ} → open-length-stop (length key) (length nonce) (length aad) (length text) (length given) (length out) ≡ o
-    → open-stop key nonce aad text given out ≡ tried o ((12, not (same given (tag key nonce aad text))) ∷ [])
+    → open-stop key nonce aad text given out ≡ tried o (tag-row key nonce aad text given)
 unfolding open-length-stop open-stop
 open-stop-is key nonce aad text given out e =
-    first-append
-    ((3, key-wrong (length key) || nonce-wrong (length nonce) || tag-wrong (length given)) ∷ (4, buffers-wrong (length aad) (length text) (length out)) ∷ [])
-    ((12, not (same given (tag key nonce aad text))) ∷ [])
-    e
+    first-append (open-length-rows (length key) (length nonce) (length aad) (length text) (length given) (length out)) (tag-row key nonce aad text given) e
