@@ -7,8 +7,8 @@ use Rattle.aes.specs.Field.{xtime, times, power, inverse, affine, turned, sub-b
 use Rattle.ring.specs.Ring.{page-at, is-record, half-named, next-page, used-from, records, filled, alone, followed, reading, read-ring, target-page, target-slot}
 use Rattle.checkpoint.specs.Checkpoint.{sealed}
 use Rattle.checkpoint.proofs.SealedLaws.{length-sealed}
-use Rattle.protocol.specs.Journal.{stores-of, erase-if}
 use Rattle.bench_values.specs.Values.{M13, key, Values}
+use Rattle.protocol.specs.Journal.{stores-of, erase-if}
 
 long : length (sealed key M13) ≡ 56
 long = length-sealed key M13 refl

@@ -1,16 +1,17 @@
 -- The sizes of a FRAM image and where its halves lie. Assumes nothing.
-use Prim.Native.Nat.{ℕ, zero, suc, _+_, _*_, _%_, _≤_}
+use Prim.Native.Nat.{ℕ, zero, suc, _+_, _*_, _/_, _%_, _≤_}
 use mathlib.Core.Path.{_≡_, refl}
 use mathlib.Core.Bool.{false}
 use mathlib.Core.Logic.{_⊎_, inl, inr}
-use mathlib.Core.List.{List}
-use lib.ListN.{length}
-use borrow.Author.Tests.{eqb-true, ltb-false, not-false}
+use mathlib.Core.List.{List, _++_}
 use native.Mathlib.Omega.{arith}
+use lib.ListN.{length, drop}
+use borrow.Author.Tests.{eqb-true, ltb-false, not-false}
 use Rattle.octets.specs.Limits.{fram-least, fram-limit, fram-step}
 use Rattle.octets.specs.Octets.{part}
-use Rattle.octets.proofs.Laws.{length-part, part-part}
+use Rattle.octets.proofs.Laws.{length-part, part-part, Written, written-front}
 use Rattle.stops.proofs.Laws.{neither}
+use Rattle.checkpoint.specs.Checkpoint.{empty-length}
 use Rattle.checkpoint.specs.Fram.{fram-wrong, half-length, half-at}
 
 pub record FramSizes (size : ℕ) : Type 0 where
@@ -47,6 +48,16 @@ half-within fram (suc (suc h)) e l = absurd (omega arith)
 pub half-long : (fram : List ℕ) (h : ℕ) → fram-wrong fram ≡ false → h ≤ 1 → length (half-at fram h) ≡ half-length fram
 unfolding half-at
 half-long fram h e l = length-part fram (h * half-length fram) (half-length fram) (half-within fram h e l)
+
+-- a half whose first bytes are ys
+pub half-begins : (fram ys : List ℕ) (h : ℕ) → fram-wrong fram ≡ false → h ≤ 1 → length ys ≤ half-length fram
+    → Written fram (h * half-length fram) (length ys) ys → half-at fram h ≡ ys ++ drop (length ys) (half-at fram h)
+unfolding half-at
+half-begins fram ys h e b l w = written-front fram ys (h * half-length fram) (half-length fram) l (half-within fram h e b) w
+
+-- a half has room for a checkpoint with empty parts, and is not longer than half of the longest image
+pub half-sizes : (fram : List ℕ) → fram-wrong fram ≡ false → (empty-length ≤ half-length fram) × (half-length fram ≤ fram-limit / 2)
+half-sizes fram e = let z = fram-sizes fram e in (omega (arith, two-halves fram e), omega (arith, two-halves fram e))
 
 -- the two halves share no byte
 pub halves-apart : (size x y : ℕ) → x ≤ 1 → y ≤ 1 → (x ≡ y → ⊥) → (x * size + size ≤ y * size) ⊎ (y * size + size ≤ x * size)

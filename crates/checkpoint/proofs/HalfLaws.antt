@@ -1,20 +1,23 @@
 -- A half that begins with a sealed checkpoint has a good head and tag and reads as that checkpoint, whatever follows it;
 -- and a half with a good head and tag begins with the checkpoint that it reads as, sealed. Assumes nothing.
-use Prim.Native.Nat.{ℕ, _/_, _≤_}
-use mathlib.Core.Path.{_≡_}
+use Prim.Native.Nat.{ℕ, _/_, _≤_, _+_, _*_}
+use mathlib.Core.Path.{_≡_, sym}
 use mathlib.Core.Bool.{true}
 use mathlib.Core.List.{List, _++_}
+use native.Mathlib.Omega.{arith}
 use lib.ListN.{length, length-append}
 use borrow.Author.Tests.{le-leb}
-use native.Mathlib.Omega.{arith}
 use Rattle.octets.specs.Limits.{part-limit, restart-limit}
+use Rattle.octets.specs.Octets.{part}
 use Rattle.octets.proofs.Laws.{same-refl}
 use Rattle.octets.proofs.Numbers.{kind-is, value-is}
 use Rattle.gcm.specs.Gcm.{encrypted}
 use Rattle.gcm.proofs.Laws.{encrypted-twice}
-use Rattle.checkpoint.specs.Checkpoint.{Checkpoint, associated, own-tag, sealed}
+use Rattle.checkpoint.specs.Checkpoint.{Checkpoint, head-length, associated, own-tag, sealed}
+use Rattle.checkpoint.specs.Fram.{half-length, half-at}
 use Rattle.checkpoint.specs.Half.{kind-at, value-at, kinds-from, open-length, secret-length, stored-restarts, stored-length, good-head, stored-associated, stored-previous, stored-open, stored-cipher, stored-tag, good-tag, stored}
 use Rattle.checkpoint.specs.Layout.{InRange}
+use Rattle.checkpoint.proofs.FramLaws.{part-of-half}
 use Rattle.checkpoint.proofs.SealedLaws.{length-sealed, word-0, word-1, word-2, associated-at, open-at, cipher-at, tag-at, previous-at}
 
 -- ---- reading what was sealed
@@ -82,3 +85,10 @@ module _ (key : List ℕ) (c : Checkpoint) (rest : List ℕ) (g : InRange c) whe
   pub read-back : stored key (c .nonce) (sealed key c ++ rest) ≡ c
   unfolding stored
   read-back = rw (open-is, cipher-is, restarts-is, previous-is, encrypted-twice)
+
+-- ---- the open part of a half, as a stretch of the image
+
+pub open-stretched : (fram : List ℕ) (h : ℕ) → head-length + open-length (half-at fram h) ≤ half-length fram
+    → part fram (h * half-length fram + head-length) (open-length (half-at fram h)) ≡ stored-open (half-at fram h)
+unfolding stored-open
+open-stretched fram h l = sym (part-of-half fram h head-length (open-length (half-at fram h)) l)

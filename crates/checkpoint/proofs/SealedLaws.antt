@@ -1,18 +1,34 @@
 -- The bytes of a sealed checkpoint, with any bytes behind it. Assumes nothing.
-use Prim.Native.Nat.{ℕ, _+_, _*_, _/_, _^_}
+use Prim.Native.Nat.{ℕ, _+_, _*_, _/_, _%_, _^_, _≤_}
 use mathlib.Core.Path.{_≡_, refl, _∙_}
-use mathlib.Core.List.{List, _++_, append-assoc}
+use mathlib.Core.Bool.{false}
+use mathlib.Core.List.{List, [], _++_, append-assoc}
+use native.Mathlib.Omega.{arith}
 use lib.ListN.{length, length-append}
 use lib.Seq.{take-at, drop-at}
-use native.Mathlib.Omega.{arith}
-use Rattle.octets.specs.Limits.{tag-length}
+use borrow.Author.Tests.{eqb-true, ltb-false, not-false}
+use Rattle.octets.specs.Limits.{part-limit, tag-length}
 use Rattle.octets.specs.Octets.{part}
 use Rattle.octets.specs.Word.{word, word-at}
 use Rattle.octets.proofs.Numbers.{length-word, word-front, word-behind}
+use Rattle.stops.proofs.Laws.{neither}
 use Rattle.gcm.specs.Gcm.{encrypted}
 use Rattle.gcm.proofs.Laws.{length-encrypted, length-tag}
-use Rattle.checkpoint.specs.Checkpoint.{Checkpoint, head-words, words, words-length, head-length, head, associated, own-tag, sealed, sealed-length}
+use Rattle.checkpoint.specs.Checkpoint.{Checkpoint, head-words, words, words-length, head-length, head, associated, own-tag, sealed, sealed-length, part-wrong}
 use Rattle.checkpoint.specs.Layout.{InRange}
+
+-- ---- parts
+
+-- what a part that passes stop 4 is; an empty one passes
+pub part-sizes : (p : List ℕ) → part-wrong p ≡ false → (length p % 4 ≡ 0) × (length p ≤ part-limit)
+unfolding part-wrong
+part-sizes p e =
+    let x = neither _ _ e in
+    (eqb-true (length p % 4) 0 (not-false _ (x .0)), ltb-false part-limit (length p) (x .1))
+
+pub empty-passes : part-wrong [] ≡ false
+unfolding part-wrong
+empty-passes = refl
 
 -- ---- lengths
 

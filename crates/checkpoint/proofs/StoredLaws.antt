@@ -3,11 +3,11 @@ use Prim.Native.Nat.{ℕ, _+_, _*_, _/_, _%_, _^_, _≤_, _<_}
 use mathlib.Core.Path.{_≡_, refl, sym, ap, ap₂, _∙_}
 use mathlib.Core.Bool.{true}
 use mathlib.Core.List.{List, _++_, append-nil}
+use native.Mathlib.Nat.{div-add-mod'}
+use native.Mathlib.Omega.{arith}
 use lib.ListN.{length, take, drop, getD, take-append-drop}
 use lib.Seq.{take-add, drop-drop}
 use borrow.Author.Tests.{eqb-true, leb-true}
-use native.Mathlib.Nat.{div-add-mod'}
-use native.Mathlib.Omega.{arith}
 use Rattle.octets.specs.Limits.{part-limit, restart-limit, tag-length}
 use Rattle.octets.specs.Octets.{part, number, bytes}
 use Rattle.octets.specs.Word.{word, word-at, kind-of, value-of}
@@ -22,7 +22,8 @@ use Rattle.checkpoint.specs.Layout.{InRange}
 -- two parts, of which the second begins at k where the first ends
 part-join : (xs : List ℕ) (i m k n : ℕ) → k ≡ i + m → part xs i m ++ part xs k n ≡ part xs i (m + n)
 unfolding part
-part-join xs i m k n e = ap (λ (j : ℕ). take m (drop i xs) ++ take n (drop j xs)) e ∙ ap (λ (l : List ℕ). take m (drop i xs) ++ take n l) (sym (drop-drop m i xs)) ∙ sym (take-add m n (drop i xs))
+part-join xs i m k n e =
+    ap (λ (j : ℕ). take m (drop i xs) ++ take n (drop j xs)) e ∙ ap (λ (l : List ℕ). take m (drop i xs) ++ take n l) (sym (drop-drop m i xs)) ∙ sym (take-add m n (drop i xs))
 
 front : (xs : List ℕ) (n : ℕ) → part xs 0 n ≡ take n xs
 unfolding part
@@ -102,7 +103,8 @@ module _ (key nonce half : List ℕ) (good : good-head half ≡ true) where
       let n : ℕ = head-length + open-length half in
       let m : ℕ = secret-length half in
       let e : n + m + tag-length ≡ sealed-length (open-length half) (secret-length half) = omega arith in
-      ap (λ (l : List ℕ). l ++ part half (n + m) tag-length) (part-join half 0 n n m (omega arith)) ∙ part-join half 0 (n + m) (n + m) tag-length (omega arith) ∙ front half (n + m + tag-length) ∙ ap (λ (k : ℕ). take k half) e
+      ap (λ (l : List ℕ). l ++ part half (n + m) tag-length) (part-join half 0 n n m (omega arith))
+      ∙ part-join half 0 (n + m) (n + m) tag-length (omega arith) ∙ front half (n + m + tag-length) ∙ ap (λ (k : ℕ). take k half) e
 
   -- ---- its bytes
 

@@ -2,6 +2,7 @@
 mod advance;
 mod buffers;
 mod job;
+mod lent;
 mod looking;
 mod memories;
 mod resuming;
@@ -9,6 +10,7 @@ mod saves;
 mod types;
 
 pub use buffers::wipe;
+pub use lent::advance_lent;
 pub use looking::look;
 pub use looking::open_part;
 pub use resuming::power_up;

@@ -122,6 +122,11 @@ part-put-inside xs i n k ys f h =
     ∙ ap (λ (m : ℕ). take m (put (drop i xs) k ys)) (sym e) ∙ take-put (drop i xs) k ys d (rw length-drop (omega arith))
     ∙ ap (λ (m : ℕ). put (take m (drop i xs)) k ys) e
 
+-- a part put back where it stood
+pub put-back : (xs : List ℕ) (i n : ℕ) → i + n ≤ length xs → put xs i (part xs i n) ≡ xs
+unfolding put part
+put-back xs i n l = rw (length-part xs i n l, ← (drop-drop n i xs), take-append-drop n (drop i xs)) (take-append-drop i xs)
+
 -- ---- the same, byte by byte
 
 module _ (xs ys : List ℕ) (i k : ℕ) (l : i ≤ length xs) where
@@ -175,6 +180,14 @@ pub written-part : (xs ys : List ℕ) (base : ℕ) → base + length ys ≤ leng
 written-part xs ys base l w =
     let e : length (part xs base (length ys)) ≡ length ys = length-part xs base (length ys) l in
     ext-getD 0 (part xs base (length ys)) ys e (λ i h. getD-part xs base (length ys) i (omega arith) ∙ w i (omega arith))
+
+-- and a part that begins with them
+pub written-front : (xs ys : List ℕ) (base n : ℕ) → length ys ≤ n → base + n ≤ length xs → Written xs base (length ys) ys
+    → part xs base n ≡ ys ++ drop (length ys) (part xs base n)
+unfolding part
+written-front xs ys base n h l w =
+    sym (take-append-drop (length ys) (part xs base n)) ∙ ap (λ (f : List ℕ). f ++ drop (length ys) (part xs base n))
+    (take-take (length ys) n (drop base xs) h ∙ written-part xs ys base (omega arith) w)
 
 -- ---- equal strings
 

@@ -14,6 +14,7 @@ use Rattle.octets.specs.Octets.{erased, part, put, blank}
 use Rattle.octets.specs.Limits.{slot-length}
 use Rattle.octets.proofs.Laws.{blank-erased, Written, length-put, length-part, getD-part, written-elsewhere, written-on}
 use Rattle.stops.specs.Stops.{first-of}
+use Rattle.ring.proofs.StoreLaws.{erased-is}
 use Rattle.ring.specs.Ring.{page-put, ring-wrong, page-before, page-erased}
 use Rattle.ring.proofs.RingLaws.{erase-pending}
 use Rattle.ring.proofs.TurnLaws.{before-laws}
@@ -22,17 +23,21 @@ use Rattle.checkpoint.specs.Checkpoint.{Checkpoint, empty-length, sealed}
 use Rattle.checkpoint.specs.Half.{stored}
 use Rattle.checkpoint.specs.Fram.{fram-wrong, half-length}
 use Rattle.checkpoint.proofs.FramLaws.{fram-kept, half-kept, half-within, halves-apart}
-use Rattle.protocol.specs.Calls.{Advances, Setup, advanced-by}
-use Rattle.protocol.specs.Journal.{entered, Journal, Draft, Store, erase, word, record-slot, made, advanced}
-use Rattle.protocol.specs.Operations.{staging-wrong, session-of, in-phase, phase-wrong, job-wrong, advance-stop, going-on, finished, ended, stored-word, store, advance-by, advance}
-use Rattle.protocol.specs.History.{State, Handed, moved, step, left-by, refused, is-stopped}
 use Rattle.protocol.specs.Types.{Origin, Save, PowerUp, Session, Phase, EraseFirst, Words, Record, Done, Progress, GoingOn}
+use Rattle.protocol.specs.Calls.{Advances, Setup, advanced-by}
+use Rattle.protocol.specs.Operations.{staging-wrong, session-of, in-phase, phase-wrong, job-wrong, advance-stop, going-on, finished, ended, stored-word, store, advance-by, advance}
+use Rattle.protocol.specs.Journal.{entered, Journal, Draft, Store, erase, word, record-slot, made, advanced}
+use Rattle.protocol.specs.History.{State, Handed, moved, step, left-by, refused, is-stopped}
 use Rattle.protocol.proofs.Facts.{no-fact}
-use Rattle.protocol.proofs.Invariant.{length-good, sealed-fits, half-of, page-in, owed-page, Durable-at, Durable, Working, Before, last-erase, Stored, Erasing-first, Writing, Doing, Holds, answer-of, Moving}
+use Rattle.protocol.proofs.Invariant.{draft-of, length-good, sealed-fits, half-of, page-in, owed-page, DurableAt, Durable, Working, Before, last-erase, Stored, ErasingFirst, Writing, Doing, Holds, answer-of, Moving}
 
 -- the call of an advance with the job handed out
 abbrev pub call : Setup → Handed → Advances
 call u h = record { sizes = u .sizes; job = h .job; staging = h .staging }
+
+-- what that advance leaves, and its answer: `rest` is to come of the draft of c
+abbrev pub Moves : Setup → State → Handed → Checkpoint → Origin → List Store → Type 0
+Moves u s h c origin rest = Moving u (step u s (advanced-by (call u h))) (advance (s .ring) (s .fram) (call u h) .progress) c origin rest
 
 module _ {u : Setup} {s : State} {h : Handed} {n : ℕ} {stores : List Store} (inv : Holds u s) (w : Working u s h n stores) where
   pub job-right : phase-wrong (h .job .phase) (h .job) (u .sizes) (s .ring) ≡ false → job-wrong (h .job) (u .sizes) (s .ring) (s .fram) ≡ false
@@ -85,13 +90,15 @@ module _ (u : Setup) (s : State) (h : Handed) (P : State → Progress → Type 0
       → P (step u s (advanced-by (call u h))) (advance (s .ring) (s .fram) (call u h) .progress)
   unfolding step left-by entered refused is-stopped moved ended finished
   after-ended Save ring fram j o e f x =
-      rw e (subst (λ (q : Origin). P (moved s (finished q) (ended (h .job) ring fram) (h .staging) (cond (is-stopped (finished q)) (s .journal) (advanced (s .journal) (s .journal .draft)))) (finished q)) (sym o) (rw f x))
+      rw e (subst (λ (q : Origin). P (moved s (finished q) (ended (h .job) ring fram) (h .staging)
+      (cond (is-stopped (finished q)) (s .journal) (advanced (s .journal) (s .journal .draft)))) (finished q)) (sym o) (rw f x))
   after-ended PowerUp ring fram j o e f x =
-      rw e (subst (λ (q : Origin). P (moved s (finished q) (ended (h .job) ring fram) (h .staging) (cond (is-stopped (finished q)) (s .journal) (advanced (s .journal) (s .journal .draft)))) (finished q)) (sym o) (rw f x))
+      rw e (subst (λ (q : Origin). P (moved s (finished q) (ended (h .job) ring fram) (h .staging)
+      (cond (is-stopped (finished q)) (s .journal) (advanced (s .journal) (s .journal .draft)))) (finished q)) (sym o) (rw f x))
 
 -- a job in its next phase
 unfoldable pub working-on : {u : Setup} {s : State} {h : Handed} {n : ℕ} {stores : List Store} (t : State) (rest : List Store) (p : Phase) (w : Working u s h n stores)
-    → t .journal .draft ≡ some (record { checkpoint = w .c; origin = w .origin; power-ups = w .c .restarts; stores = rest })
+    → t .journal .draft ≡ some (draft-of (w .c) (w .origin) rest)
     → half-length (t .fram) ≡ half-length (s .fram) → t .nonces ≡ s .nonces
     → Working u t (record { job = in-phase (h .job) p; staging = h .staging }) n rest
 unfolding in-phase
@@ -116,7 +123,8 @@ pub doing-of : (u : Setup) (t : State) (h : Handed) → t .handed ≡ some h →
 doing-of u t h e d k f = let q : h ≡ k = cc in subst (λ (x : Handed). Doing u t x (x .job .phase)) q d
 
 -- an erase of the page that awaits it, whole or interrupted
-pub erase-durable : {u : Setup} {ring fram : List ℕ} {nonces : List (List ℕ)} {entry : Option Checkpoint} {count power-ups : ℕ} (left : List ℕ) → length left ≡ slot-length * u .sizes .slots
+pub erase-durable : {u : Setup} {ring fram : List ℕ} {nonces : List (List ℕ)} {entry : Option Checkpoint} {count power-ups : ℕ}
+    (left : List ℕ) → length left ≡ slot-length * u .sizes .slots
     → Durable u ring fram nonces entry count true power-ups
     → (ring-wrong (u .sizes .pages) (u .sizes .slots) (page-put ring (u .sizes .slots) (page-before (u .sizes .pages) (page-in u count)) left) ≡ false)
     × Durable u (page-put ring (u .sizes .slots) (page-before (u .sizes .pages) (page-in u count)) left) fram nonces entry count (not (blank left)) power-ups
@@ -142,12 +150,11 @@ erase-durable {u} {ring} {count = count} left l (inr (c, r)) =
 pub erased-durable : (u : Setup) (s : State) (p : ℕ) → Holds u s → s .journal .owed ≡ true
     → p ≡ owed-page u s
     → (ring-wrong (u .sizes .pages) (u .sizes .slots) (page-erased (s .ring) (u .sizes .slots) p) ≡ false)
-    × Durable-at u s (page-erased (s .ring) (u .sizes .slots) p) (s .fram) false
-unfolding page-erased
+    × DurableAt u s (page-erased (s .ring) (u .sizes .slots) p) (s .fram) false
 erased-durable u s p inv o e =
-    let d = subst (λ (b : Bool). Durable-at u s (s .ring) (s .fram) b) o (inv .durable) in
+    let d = subst (λ (b : Bool). DurableAt u s (s .ring) (s .fram) b) o (inv .durable) in
     let x = erase-durable (erased (slot-length * u .sizes .slots)) (length-replicate (slot-length * u .sizes .slots) 0xFF) d in
-    rw e (rw (blank-erased (slot-length * u .sizes .slots)) at x)
+    rw (erased-is, e) (rw (blank-erased (slot-length * u .sizes .slots)) at x)
 
 pub page-right : (u : Setup) (s : State) (p : ℕ) → Holds u s → p ≡ owed-page u s
     → leb (u .sizes .pages) p ≡ false
@@ -156,8 +163,8 @@ page-right u s p inv e =
     lt-leb (u .sizes .pages) p (rw e (before-laws (u .sizes .pages) (page-in u (s .journal .count)) (z .some-pages) (mod-lt _ (omega arith)) .in-ring))
 
 module _ (u : Setup) (s : State) (h : Handed) (inv : Holds u s) where
-  pub erasing-first : (p : ℕ) → h .job .phase ≡ EraseFirst p → (x : Erasing-first u s h p)
-      → Moving u (step u s (advanced-by (call u h))) (advance (s .ring) (s .fram) (call u h) .progress)
+  pub erasing-first : (p : ℕ) → h .job .phase ≡ EraseFirst p → (x : ErasingFirst u s h p)
+      → Moves u s h
       (x .before .working .c) (x .before .working .origin) (word ∷ (replicate (x .left) word ++ record-slot ∷ last-erase u s))
   unfolding in-phase advanced made store phase-wrong working-on
   erasing-first p e x =
@@ -193,7 +200,7 @@ module _ (u : Setup) (s : State) (h : Handed) (inv : Holds u s) where
         count = s .journal .count;
         owed = false;
         power-ups = s .journal .power-ups;
-        draft = some (record { checkpoint = w .c; origin = w .origin; power-ups = w .c .restarts; stores = rest });
+        draft = some (draft-of (w .c) (w .origin) rest);
       }
 
       moves : advance (s .ring) (s .fram) (call u h) ≡ going-on (h .job) (Words 0) ring (s .fram)
@@ -206,7 +213,7 @@ module _ (u : Setup) (s : State) (h : Handed) (inv : Holds u s) where
       t = after s h (Words 0) ring (s .fram) (s .sessions) j
 
       d : (ring-wrong (u .sizes .pages) (u .sizes .slots) ring ≡ false)
-          × Durable-at u s ring (s .fram) false
+          × DurableAt u s ring (s .fram) false
       d = erased-durable u s p inv (x .owed) (x .page-is)
 
       writing : Writing u t k 0
@@ -308,7 +315,7 @@ word-state s h w p c origin rest = after s h p (s .ring) (stored-word (s .fram) 
       count = s .journal .count;
       owed = s .journal .owed;
       power-ups = s .journal .power-ups;
-      draft = some (record { checkpoint = c; origin = origin; power-ups = c .restarts; stores = rest });
+      draft = some (draft-of c origin rest);
     })
 
 module _ {u : Setup} {s : State} {h : Handed} {rest : List Store} (inv : Holds u s) (w left : ℕ) (long : 4 * (w + suc left) ≡ h .job .length) (x : Before u s h (word ∷ rest)) where
@@ -323,7 +330,7 @@ module _ {u : Setup} {s : State} {h : Handed} {rest : List Store} (inv : Holds u
   word-kept = length-put (s .fram) (h .job .half * half-length (s .fram) + 4 * w) (part (h .staging) (4 * w) 4)
       (omega (arith, word-long, sealed-within, half-within (s .fram) (h .job .half) (inv .fram-right) (rw (x .working .half-is) (omega arith))))
 
-  word-durable : Durable-at u s (s .ring) (stored-word (s .fram) (h .staging) (h .job) w) (s .journal .owed)
+  word-durable : DurableAt u s (s .ring) (stored-word (s .fram) (h .staging) (h .job) w) (s .journal .owed)
   unfolding stored-word
   word-durable =
       let e = x .working .half-is in
@@ -346,10 +353,11 @@ module _ {u : Setup} {s : State} {h : Handed} {rest : List Store} (inv : Holds u
 
   word-moving : (p : Phase) → h .job .phase ≡ Words w → cond (eqb (4 * (w + 1)) (h .job .length)) Record (Words (w + 1)) ≡ p → (rest ≡ [] → ⊥)
       → Doing u (word-state s h w p (x .working .c) (x .working .origin) rest) (next-job h p) p
-      → Moving u (step u s (advanced-by (call u h))) (advance (s .ring) (s .fram) (call u h) .progress) (x .working .c) (x .working .origin) rest
+      → Moves u s h (x .working .c) (x .working .origin) rest
   unfolding in-phase advanced made store phase-wrong
   word-moving p e next more doing =
-      after-going u s h (λ t a. Moving u t a (x .working .c) (x .working .origin) rest) p (s .ring) fram (t .journal) moves (ap (λ (d : Option Draft). advanced (s .journal) d) (x .working .draft-is))
+      after-going u s h (λ t a. Moving u t a (x .working .c) (x .working .origin) rest) p (s .ring) fram (t .journal) moves
+      (ap (λ (d : Option Draft). advanced (s .journal) d) (x .working .draft-is))
       (record {
         holds = record {
           ring-right = inv .ring-right;
@@ -383,7 +391,7 @@ module _ {u : Setup} {s : State} {h : Handed} {rest : List Store} (inv : Holds u
 module _ (u : Setup) (s : State) (h : Handed) (inv : Holds u s) where
   words-on : (w : ℕ) → h .job .phase ≡ Words w → (left : ℕ) → 4 * (w + suc left) ≡ h .job .length
       → (x : Before u s h (word ∷ (replicate left word ++ record-slot ∷ last-erase u s))) → s .journal .owed ≡ false → Stored u s h (4 * w) (x .working .c)
-      → Moving u (step u s (advanced-by (call u h))) (advance (s .ring) (s .fram) (call u h) .progress)
+      → Moves u s h
       (x .working .c) (x .working .origin) (replicate left word ++ record-slot ∷ last-erase u s)
   unfolding word-before in-phase working-on
   words-on w e zero long x o z =
@@ -405,6 +413,6 @@ module _ (u : Setup) (s : State) (h : Handed) (inv : Holds u s) where
       })
 
   pub writing : (w : ℕ) → h .job .phase ≡ Words w → (x : Writing u s h w)
-      → Moving u (step u s (advanced-by (call u h))) (advance (s .ring) (s .fram) (call u h) .progress)
+      → Moves u s h
       (x .before .working .c) (x .before .working .origin) (replicate (x .left) word ++ record-slot ∷ last-erase u s)
   writing w e x = words-on w e (x .left) (x .left-is) (x .before) (x .owed) (x .stored)

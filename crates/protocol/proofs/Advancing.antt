@@ -7,23 +7,23 @@ use mathlib.Core.List.{List, [], _∷_}
 use native.Mathlib.Omega.{arith}
 use lib.ListN.{length}
 use lib.Dec.{eqb, ltb, leb, T}
-use Rattle.stops.proofs.Laws.{neither}
+use Rattle.stops.proofs.Laws.{neither, passes}
 use Rattle.ring.specs.Ring.{ring-wrong, page-erased}
 use Rattle.checkpoint.specs.Checkpoint.{Checkpoint, empty-length}
 use Rattle.checkpoint.specs.Fram.{half-length}
+use Rattle.protocol.specs.Types.{Save, PowerUp, Origin, Phase, EraseFirst, Words, Record, EraseAfter, Done, Job}
 use Rattle.protocol.specs.Calls.{Setup, advanced-by, Sizes, Advances}
+use Rattle.protocol.specs.Operations.{finished, session-of, in-phase, phase-wrong, ended, recorded, store, advance, job-wrong, advance-stop, advance-by}
 use Rattle.protocol.specs.Journal.{Journal, Draft, Store, made, advanced, entered}
-use Rattle.protocol.specs.Operations.{session-of, in-phase, phase-wrong, ended, recorded, store, advance, job-wrong, advance-stop, advance-by}
 use Rattle.protocol.specs.History.{State, Handed, step, moved, refused, is-stopped, Keeps, left-by}
-use Rattle.protocol.specs.Types.{Origin, Phase, EraseFirst, Words, Record, EraseAfter, Done, Job}
-use Rattle.protocol.proofs.Invariant.{Durable-at, Erasing-after, Doing, Holds, Moving}
-use Rattle.protocol.proofs.Advances.{call, after, advance-stores, after-ended, doing-of, erased-durable, page-right, erasing-first, writing}
+use Rattle.protocol.proofs.Facts.{no-fact}
+use Rattle.protocol.proofs.Invariant.{answer-of, draft-of, DurableAt, ErasingAfter, Doing, Holds, Moving}
+use Rattle.protocol.proofs.Advances.{Moves, call, after, advance-stores, after-ended, doing-of, erased-durable, page-right, erasing-first, writing}
 use Rattle.protocol.proofs.Records.{session-is, more-known, more-match, recording}
-use Rattle.protocol.proofs.Facts.{no-fact, passed}
 
 module _ (u : Setup) (s : State) (h : Handed) (inv : Holds u s) where
-  pub erasing-after : (p : ℕ) → h .job .phase ≡ EraseAfter p → (x : Erasing-after u s h p)
-      → Moving u (step u s (advanced-by (call u h))) (advance (s .ring) (s .fram) (call u h) .progress) (x .working .c) (x .working .origin) []
+  pub erasing-after : (p : ℕ) → h .job .phase ≡ EraseAfter p → (x : ErasingAfter u s h p)
+      → Moves u s h (x .working .c) (x .working .origin) []
   unfolding in-phase advanced made store phase-wrong
   erasing-after p e x =
       after-ended u s h (λ t a. Moving u t a (x .working .c) (x .working .origin) []) (x .working .origin) ring (s .fram) j (x .working .origin-is) moves
@@ -48,7 +48,7 @@ module _ (u : Setup) (s : State) (h : Handed) (inv : Holds u s) where
       ring = page-erased (s .ring) (u .sizes .slots) p
 
       draft : Draft
-      draft = record { checkpoint = x .working .c; origin = x .working .origin; power-ups = x .working .c .restarts; stores = [] }
+      draft = draft-of (x .working .c) (x .working .origin) []
 
       j : Journal
       j = record { entry = s .journal .entry; count = s .journal .count; owed = false; power-ups = s .journal .power-ups; draft = some draft }
@@ -63,7 +63,7 @@ module _ (u : Setup) (s : State) (h : Handed) (inv : Holds u s) where
       t = after s h Done ring (s .fram) (session-of (h .job) ∷ s .sessions) j
 
       d : (ring-wrong (u .sizes .pages) (u .sizes .slots) ring ≡ false)
-          × Durable-at u s ring (s .fram) false
+          × DurableAt u s ring (s .fram) false
       d = erased-durable u s p inv (x .owed) (x .page-is)
 
 same-draft : (o : Option Draft) (d e : Draft) → o ≡ some d → o ≡ some e → d ≡ e
@@ -78,26 +78,32 @@ no-rest d e x rest p q r =
     let y : _≡_ {A = ℕ} 0 1 = cc in omega arith
 
 module _ (u : Setup) (s : State) (h : Handed) (inv : Holds u s) (c : Checkpoint) (origin : Origin) (x : Store) (rest : List Store)
-    (drafted-is : s .journal .draft ≡ some (record { checkpoint = c; origin = origin; power-ups = c .restarts; stores = x ∷ rest })) where
+    (drafted-is : s .journal .draft ≡ some (draft-of c origin (x ∷ rest))) where
   cast : (d : Draft) (y : Store) (more : List Store) → s .journal .draft ≡ some d → d .stores ≡ y ∷ more
-      → Moving u (step u s (advanced-by (call u h))) (advance (s .ring) (s .fram) (call u h) .progress) (d .checkpoint) (d .origin) more
-      → Moving u (step u s (advanced-by (call u h))) (advance (s .ring) (s .fram) (call u h) .progress) c origin rest
+      → Moves u s h (d .checkpoint) (d .origin) more
+      → Moves u s h c origin rest
   cast d y more p q m =
-      let e = same-draft (s .journal .draft) d (record { checkpoint = c; origin = origin; power-ups = c .restarts; stores = x ∷ rest }) p drafted-is in
-      let r : more ≡ rest = same-rest d (record { checkpoint = c; origin = origin; power-ups = c .restarts; stores = x ∷ rest }) y x more rest e q refl in
-      subst₂ (λ (f : Draft) (l : List Store). Moving u (step u s (advanced-by (call u h))) (advance (s .ring) (s .fram) (call u h) .progress) (f .checkpoint) (f .origin) l) e r m
+      let e = same-draft (s .journal .draft) d (draft-of c origin (x ∷ rest)) p drafted-is in
+      let r : more ≡ rest = same-rest d (draft-of c origin (x ∷ rest)) y x more rest e q refl in
+      subst₂ (λ (f : Draft) (l : List Store). Moves u s h (f .checkpoint) (f .origin) l) e r m
 
   go : (p : Phase) → h .job .phase ≡ p → Doing u s h p
-      → Moving u (step u s (advanced-by (call u h))) (advance (s .ring) (s .fram) (call u h) .progress) c origin rest
+      → Moves u s h c origin rest
   go (EraseFirst p) e d = cast _ _ _ (d .before .working .draft-is) refl (erasing-first u s h inv p e d)
   go (Words w) e d = cast _ _ _ (d .before .working .draft-is) refl (writing u s h inv w e d)
   go Record e d = cast _ _ _ (d .before .working .draft-is) refl (recording inv d e)
   go (EraseAfter p) e d = cast _ _ _ (d .working .draft-is) refl (erasing-after u s h inv p e d)
-  go Done e d = absurd (no-rest (d .0) (record { checkpoint = c; origin = origin; power-ups = c .restarts; stores = x ∷ rest }) x rest (same-draft (s .journal .draft) (d .0) _ (d .1) drafted-is) (d .2) refl)
+  go Done e d = absurd (no-rest (d .0) (draft-of c origin (x ∷ rest)) x rest (same-draft (s .journal .draft) (d .0) _ (d .1) drafted-is) (d .2) refl)
 
   pub advancing : s .handed ≡ some h
-      → Moving u (step u s (advanced-by (call u h))) (advance (s .ring) (s .fram) (call u h) .progress) c origin rest
+      → Moves u s h c origin rest
   advancing e = go (h .job .phase) refl (inv .doing h e)
+
+pub going : (origin : Origin) (rest : List Store) → is-stopped (answer-of origin rest) ≡ false
+unfolding is-stopped finished
+going Save [] = refl
+going PowerUp [] = refl
+going origin (x ∷ rest) = refl
 
 -- ---- every advance of the job handed out last
 
@@ -109,7 +115,7 @@ phase-passes j z ring fram e =
 
 job-passes : (ring fram : List ℕ) (a : Advances) → advance-stop ring fram a ≡ none → job-wrong (a .job) (a .sizes) ring fram ≡ false
 unfolding advance-stop
-job-passes ring fram a e = passed _ _ _ (passed _ _ _ (passed _ _ _ (passed _ _ _ e .1) .1) .1) .0
+job-passes ring fram a e = passes _ e .1 .1 .1 .0
 
 done-stops : (u : Setup) (s : State) (h : Handed) → h .job .phase ≡ Done → (o : Option ℕ) → advance-stop (s .ring) (s .fram) (call u h) ≡ o
     → step u s (advanced-by (call u h)) ≡ s

@@ -3,11 +3,11 @@ use Prim.Native.Nat.{ℕ}
 use mathlib.Core.Path.{_≡_, refl}
 use mathlib.Core.Option.{Option, none, some}
 use mathlib.Core.List.{List}
-use Rattle.protocol.specs.Calls.{Setup, Event, first-saved, saved, powered-up, advanced-by, PowerLoss, lost-in-store}
-use Rattle.protocol.specs.Journal.{entered, Journal}
-use Rattle.protocol.specs.Operations.{Begin, Moved}
-use Rattle.protocol.specs.History.{State, Handed, begun, moved, broken, step, is-stop, is-stopped, refused, left-by}
 use Rattle.protocol.specs.Types.{Start, Begun, Stopped, Progress, GoingOn, Saved, Restored, Refused}
+use Rattle.protocol.specs.Calls.{Setup, Event, first-saved, saved, powered-up, advanced-by, PowerLoss, lost-in-store}
+use Rattle.protocol.specs.Operations.{Begin, Moved}
+use Rattle.protocol.specs.Journal.{entered, Journal}
+use Rattle.protocol.specs.History.{State, Handed, begun, moved, broken, step, is-stop, is-stopped, refused, left-by}
 
 begun-journal : (s : State) (x : Start) (b : Begin) (nonce : List ℕ) (j : Journal) → begun s x b nonce j .journal ≡ j
 unfolding begun is-stop

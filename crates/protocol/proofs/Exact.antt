@@ -5,12 +5,13 @@ use mathlib.Core.Bool.{Bool, true, false, cond}
 use mathlib.Core.Option.{Option, none, some}
 use mathlib.Core.List.{List}
 use lib.Dec.{T}
-use Rattle.ring.specs.Ring.{page-before, page-erased}
+use Rattle.ring.specs.Ring.{page-before}
+use Rattle.ring.proofs.StoreLaws.{erased-is}
 use Rattle.checkpoint.specs.Checkpoint.{Checkpoint}
+use Rattle.protocol.specs.Types.{Job, Session, Origin, Save, PowerUp, Phase, EraseFirst, Words, Record, EraseAfter, Done}
 use Rattle.protocol.specs.Calls.{Sizes, Advances, Event, first-saved, saved, powered-up, advanced-by, PowerLoss, lost-in-store}
 use Rattle.protocol.specs.Operations.{no-job, going-on, ended, stored-word, recorded, erase-follows, after-record, store, advance-by, advance, begin, first-save, save, power-up, finished, no-session, session-of}
 use Rattle.protocol.specs.History.{State, broken-ring, broken-fram, is-stop, bytes-of}
-use Rattle.protocol.specs.Types.{Job, Session, Origin, Save, PowerUp, Phase, EraseFirst, Words, Record, EraseAfter, Done}
 use Rattle.protocol.specs.Recovery.{start-answer, is-going, Exact}
 use Rattle.protocol.proofs.Refused.{store-answers}
 
@@ -26,7 +27,8 @@ unfolding begin start-answer
 begin-answers none key c job staging state secret = refl
 begin-answers (some x) key c job staging state secret = refl
 
-recorded-ring : (b : Bool) (j : Job) (p : Phase) (new fram : List ℕ) → (cond b (going-on j p new fram) (ended j new fram) .ring ≡ new) × (cond b (going-on j p new fram) (ended j new fram) .fram ≡ fram)
+recorded-ring : (b : Bool) (j : Job) (p : Phase) (new fram : List ℕ)
+    → (cond b (going-on j p new fram) (ended j new fram) .ring ≡ new) × (cond b (going-on j p new fram) (ended j new fram) .fram ≡ fram)
 unfolding going-on ended
 recorded-ring true j p new fram = (refl, refl)
 recorded-ring false j p new fram = (refl, refl)
@@ -35,13 +37,13 @@ recorded-ring false j p new fram = (refl, refl)
 store-leaves : (p : Phase) (ring fram : List ℕ) (a : Advances)
     → (store p ring fram a .ring ≡ broken-ring p ring (a .sizes .slots) (a .job) (bytes-of p (a .job) (a .sizes .slots) (a .staging)))
     × (store p ring fram a .fram ≡ broken-fram p fram (a .job) (bytes-of p (a .job) (a .sizes .slots) (a .staging)))
-unfolding store going-on ended after-record recorded page-erased stored-word broken-ring broken-fram bytes-of
-store-leaves (EraseFirst p) ring fram a = (refl, refl)
+unfolding store going-on ended after-record recorded stored-word broken-ring broken-fram bytes-of
+store-leaves (EraseFirst p) ring fram a = (erased-is ring (a .sizes .slots) p, refl)
 store-leaves (Words w) ring fram a = (refl, refl)
 store-leaves Record ring fram a =
     let new = recorded ring (a .sizes .slots) (a .job) in
     recorded-ring (erase-follows new (a .sizes) (a .job)) (a .job) (EraseAfter (page-before (a .sizes .pages) (a .job .page))) new fram
-store-leaves (EraseAfter p) ring fram a = (refl, refl)
+store-leaves (EraseAfter p) ring fram a = (erased-is ring (a .sizes .slots) p, refl)
 store-leaves Done ring fram a = (refl, refl)
 
 ended-session : (o : Origin) (z : Session) → z ≡ cond (is-going (finished o)) no-session z

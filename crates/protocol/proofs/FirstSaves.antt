@@ -11,42 +11,40 @@ use lib.ListN.{length}
 use borrow.Author.Tests.{eqb-true, not-false}
 use Rattle.octets.specs.Limits.{nonce-length, tag-length}
 use Rattle.octets.specs.Octets.{blank}
-use Rattle.stops.proofs.Laws.{neither}
+use Rattle.stops.proofs.Laws.{neither, passes}
 use Rattle.ring.specs.Ring.{Blank}
 use Rattle.ring.proofs.RingLaws.{read-blank}
 use Rattle.ring.proofs.FoundLaws.{found}
 use Rattle.checkpoint.specs.Fram.{half-length}
-use Rattle.protocol.specs.Calls.{FirstSave, Setup, first-saved}
-use Rattle.protocol.specs.Journal.{entered, first-draft}
-use Rattle.protocol.specs.Operations.{key-wrong, nonce-wrong, tag-wrong, job-of, first-save-stop, first-checkpoint, first-save}
-use Rattle.protocol.specs.History.{State, step, Keeps, left-by, refused}
 use Rattle.protocol.specs.Types.{Save, Words}
-use Rattle.protocol.proofs.Invariant.{Good, half-of, page-in, slot-in, Durable-at, Untouched, Holds}
-use Rattle.protocol.proofs.Facts.{passed}
-use Rattle.protocol.proofs.Starts.{started, start-holds, begun-stopped, begun-none, Parts, parts-pass, save-arguments}
+use Rattle.protocol.specs.Calls.{FirstSave, Setup, first-saved}
+use Rattle.protocol.specs.Operations.{key-wrong, nonce-wrong, tag-wrong, job-of, first-save-stop, first-checkpoint, first-save}
+use Rattle.protocol.specs.Journal.{entered, first-draft}
+use Rattle.protocol.specs.History.{State, step, Keeps, left-by, refused}
+use Rattle.protocol.proofs.Invariant.{Good, half-of, page-in, slot-in, DurableAt, Untouched, Holds}
 use Rattle.protocol.proofs.Reading.{reads}
+use Rattle.protocol.proofs.Starts.{started, start-holds, begun-stopped, begun-none, Parts, parts-pass, save-arguments, same-arguments}
 
 abbrev pub first-call : Setup → FirstSave → FirstSave
 first-call u a = record { arguments = save-arguments u (a .arguments); starting-tag = a .starting-tag }
 
-record First-passes (u : Setup) (ring fram : List ℕ) (a : FirstSave) : Type 0 where
+record FirstPasses (u : Setup) (ring fram : List ℕ) (a : FirstSave) : Type 0 where
   nonce-long : length (a .arguments .nonce) ≡ nonce-length
   tag-long : length (a .starting-tag) ≡ tag-length
   parts : Parts (a .arguments .open-part) (a .arguments .secret) (half-length fram) (length (a .arguments .staging))
   ring-blank : blank ring ≡ true
 
-first-passes : (u : Setup) (ring fram : List ℕ) (a : FirstSave) → first-save-stop ring fram (first-call u a) ≡ none → First-passes u ring fram a
+first-passes : (u : Setup) (ring fram : List ℕ) (a : FirstSave) → first-save-stop ring fram (first-call u a) ≡ none → FirstPasses u ring fram a
 unfolding first-save-stop
 first-passes u ring fram a e =
-    let e₁ = passed _ _ _ (passed _ _ _ e .1) .1 in
-    let sizes = neither (key-wrong (length (u .key)) || nonce-wrong (length (a .arguments .nonce))) (tag-wrong (length (a .starting-tag))) (passed _ _ _ e₁ .0) in
-    let e₂ = passed _ _ _ e₁ .1 in
-    let e₃ = passed _ _ _ e₂ .1 in
+    let p = passes _ e in
+    let lengths = neither (key-wrong (length (u .key)) || nonce-wrong (length (a .arguments .nonce))) (tag-wrong (length (a .starting-tag))) (p .1 .1 .0) in
     record {
-      nonce-long = eqb-true (length (a .arguments .nonce)) nonce-length (not-false _ (neither (key-wrong (length (u .key))) (nonce-wrong (length (a .arguments .nonce))) (sizes .0) .1));
-      tag-long = eqb-true (length (a .starting-tag)) tag-length (not-false _ (sizes .1));
-      parts = parts-pass (a .arguments .open-part) (a .arguments .secret) fram (a .arguments .staging) (passed _ _ _ e₂ .0);
-      ring-blank = not-false _ (passed _ _ _ e₃ .0);
+      nonce-long = eqb-true (length (a .arguments .nonce)) nonce-length
+          (not-false _ (neither (key-wrong (length (u .key))) (nonce-wrong (length (a .arguments .nonce))) (lengths .0) .1));
+      tag-long = eqb-true (length (a .starting-tag)) tag-length (not-false _ (lengths .1));
+      parts = parts-pass (a .arguments .open-part) (a .arguments .secret) fram (a .arguments .staging) (p .1 .1 .1 .0);
+      ring-blank = not-false _ (p .1 .1 .1 .1 .0);
     }
 
 -- a ring that is blank has nothing recorded
@@ -58,7 +56,7 @@ blank-untouched u s inv b = go (inv .durable)
     different true e = let z : _≡_ {A = ℕ} 0 1 = cc in omega arith
     different false e = let z : _≡_ {A = ℕ} 0 1 = cc in omega arith
 
-    go : Durable-at u s (s .ring) (s .fram) (s .journal .owed)
+    go : DurableAt u s (s .ring) (s .fram) (s .journal .owed)
         → Untouched (s .ring) (s .journal .entry) (s .journal .count) (s .journal .owed) (s .journal .power-ups)
     go (inl x) = x
     go (inr (c, r)) = absurd (different (s .journal .owed) (sym (read-blank (u .sizes .pages) (u .sizes .slots) (s .ring) (inv .ring-right) b)
@@ -69,9 +67,10 @@ module _ (u : Setup) (s : State) (inv : Holds u s) (a : FirstSave) (new : List·
       → Holds u (started u s (first-checkpoint (first-call u a)) Save 0 (job-of (u .key) (first-checkpoint (first-call u a)) (Words 0) Save 0 0 0) (a .arguments .staging))
   unfolding first-checkpoint
   first-begun e =
-      start-holds u s inv (first-checkpoint (first-call u a)) Save (Words 0) 0 0 0 (a .arguments .staging) good new (p .parts .staging-long) half-is page-is slot-is 0 refl (inl (x .none-owed, refl))
+      start-holds u s inv (first-checkpoint (first-call u a)) Save (Words 0) 0 0 0 (a .arguments .staging) good new (p .parts .staging-long)
+      half-is page-is slot-is 0 refl (inl (x .none-owed, refl))
     where
-      p : First-passes u (s .ring) (s .fram) a
+      p : FirstPasses u (s .ring) (s .fram) a
       p = first-passes u (s .ring) (s .fram) a e
 
       x : Untouched (s .ring) (s .journal .entry) (s .journal .count) (s .journal .owed) (s .journal .power-ups)
@@ -115,5 +114,5 @@ module _ (u : Setup) (s : State) (inv : Holds u s) (a : FirstSave) (new : List·
 pub hold-first : (u : Setup) (s : State) (a : FirstSave) → Holds u s → Keeps u s (first-saved a) → Holds u (step u s (first-saved a))
 unfolding Keeps
 hold-first u s a inv (p, q, f) =
-    let path : first-call u a ≡ a = λ i. record { arguments = record { sizes = sym p i; key = sym q i; nonce = a .arguments .nonce; open-part = a .arguments .open-part; secret = a .arguments .secret; staging = a .arguments .staging }; starting-tag = a .starting-tag } in
+    let path : first-call u a ≡ a = λ i. record { arguments = same-arguments u (a .arguments) p q i; starting-tag = a .starting-tag } in
     subst (λ (b : FirstSave). Holds u (step u s (first-saved b))) path (first-go u s inv a f (first-save-stop (s .ring) (s .fram) (first-call u a)) refl)

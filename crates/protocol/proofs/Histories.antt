@@ -1,5 +1,5 @@
 -- Every unit has the lists of specs/Histories.antt.
-use Prim.Native.Nat.{ℕ, zero, suc, _+_, _-_, _/_, _%_, _^_, _≤_, _<_}
+use Prim.Native.Nat.{ℕ, zero, suc, _+_, _*_, _-_, _/_, _%_, _^_, _≤_, _<_}
 use mathlib.Core.Path.{_≡_, refl, sym, ap, subst, subst₂, _∙_}
 use mathlib.Core.Bool.{Bool, true, false, _||_}
 use mathlib.Core.Logic.{_⊎_, inl, inr}
@@ -7,29 +7,31 @@ use mathlib.Core.Option.{none, some}
 use mathlib.Core.List.{List, [], _∷_, _++_, List·Memᴰ, List·Memᴰ·head, List·Memᴰ·cases-cons, List·Memᴰ·not-nil}
 use native.Mathlib.Nat.{add-zero}
 use native.Mathlib.Omega.{arith}
-use lib.ListN.{length, length-replicate}
-use lib.Dec.{ltb, lit<}
+use lib.ListN.{replicate, length, length-replicate}
+use lib.Dec.{lit<, lit≤}
 use borrow.Author.Tests.{eq-eqb, le-ltb}
-use Rattle.octets.specs.Limits.{fram-limit, part-limit, restart-limit, key-length, nonce-length}
-use Rattle.octets.specs.Octets.{blank, put, number, bytes}
-use Rattle.octets.proofs.Laws.{same-refl}
+use Rattle.octets.specs.Limits.{slot-length, fram-least, fram-limit, part-limit, restart-limit, key-length, nonce-length}
+use Rattle.octets.specs.Octets.{erased, blank, put, number, bytes}
+use Rattle.octets.proofs.Laws.{blank-erased}
 use Rattle.octets.proofs.Numbers.{length-bytes, number-bytes}
 use Rattle.stops.specs.Stops.{first-of}
-use Rattle.ring.specs.Ring.{At, record-of, newest-record, not-newest}
+use Rattle.ring.proofs.StoreLaws.{is-newest}
+use Rattle.ring.specs.Ring.{ring-wrong, At, record-of, newest-record, not-newest}
 use Rattle.ring.proofs.RingLaws.{page-of, slot-of}
 use Rattle.ring.proofs.FoundLaws.{found, not-blank, not-unreadable, pending-is}
+use Rattle.checkpoint.proofs.SealedLaws.{empty-passes}
 use Rattle.checkpoint.specs.Fram.{fram-wrong, half-length}
-use Rattle.checkpoint.specs.Checkpoint.{Checkpoint, part-wrong, sealed}
-use Rattle.checkpoint.proofs.FramLaws.{fram-sizes, two-halves}
+use Rattle.checkpoint.specs.Checkpoint.{Checkpoint, sealed, empty-length}
+use Rattle.checkpoint.proofs.FramLaws.{half-sizes}
 use Rattle.protocol.specs.Types.{Session, Save, PowerUp, Words}
 use Rattle.protocol.specs.Calls.{FirstSave, Saves, PowersUp, Setup, Event, first-saved, saved, powered-up}
-use Rattle.protocol.specs.Journal.{drafted, stores-of, power-up-draft, empty}
 use Rattle.protocol.specs.Operations.{key-wrong, nonce-wrong, staging-wrong, parts-wrong, stale, job-of, first-checkpoint, first-save-stop, save-checkpoint, save-stop}
+use Rattle.protocol.specs.Journal.{drafted, stores-of, power-up-draft, empty}
 use Rattle.protocol.specs.History.{State, fresh, run, Keeps, Allowed}
 use Rattle.protocol.specs.Recovery.{Fits, Last}
-use Rattle.protocol.specs.Histories.{to-its-end, staging-room, state-room, numbered-first, numbered-save, numbered-power-up, with-session, saves-on, power-ups-on, history, Reachable}
-use Rattle.protocol.proofs.Invariant.{half-of, session-in, Holds}
+use Rattle.protocol.specs.Histories.{smallest, bench-state, Examples, to-its-end, staging-room, state-room, numbered-first, numbered-save, numbered-power-up, with-session, saves-on, power-ups-on, history, Reachable}
 use Rattle.protocol.proofs.Facts.{no-fact}
+use Rattle.protocol.proofs.Invariant.{half-of, session-in, Holds}
 use Rattle.protocol.proofs.Reading.{reads, record-found, new-nonce}
 use Rattle.protocol.proofs.FirstSaves.{first-begun, first-step}
 use Rattle.protocol.proofs.Saves.{saving-job, save-begun, save-step}
@@ -65,19 +67,16 @@ unfolding state-room
 length-state = length-replicate {A = ℕ} part-limit 0
 
 room : (fram : List ℕ) → fram-wrong fram ≡ false → half-length fram ≤ length staging-room
-unfolding half-length
-room fram e = rw length-staging (let z = fram-sizes fram e in omega arith)
+room fram e = rw length-staging (half-sizes fram e .1)
 
 module _ (u : Setup) (key-long : length (u .key) ≡ key-length) (i : ℕ) where
   sizes-pass : key-wrong (length (u .key)) || nonce-wrong (length (bytes nonce-length i)) ≡ false
   sizes-pass = rw (eq-eqb (length (u .key)) key-length key-long, eq-eqb (length (bytes nonce-length i)) nonce-length (length-bytes nonce-length i))
 
 parts-pass : (fram : List ℕ) → fram-wrong fram ≡ false → parts-wrong [] [] fram || staging-wrong staging-room fram ≡ false
-unfolding parts-wrong part-wrong staging-wrong
+unfolding parts-wrong staging-wrong
 parts-pass fram e =
-    let z = fram-sizes fram e in
-    let l : ltb (half-length fram) 44 ≡ false = le-ltb (half-length fram) 44 (omega (arith, two-halves fram e)) in
-    rw l (le-ltb (length staging-room) (half-length fram) (room fram e))
+    rw (empty-passes, le-ltb (half-length fram) empty-length (half-sizes fram e .0)) (le-ltb (length staging-room) (half-length fram) (room fram e))
 
 -- ---- the first save
 
@@ -132,7 +131,8 @@ module _ (u : Setup) (ring fram : List ℕ) (b : blank ring ≡ true) (f : Fits 
 
   first-after : After u (run u start (to-its-end u start (first-saved (numbered-first u 0)))) 1 0
   unfolding fresh empty first-checkpoint
-  first-after = after-whole u start 0 (first-checkpoint (numbered-first u 0)) (to-its-end u start (first-saved (numbered-first u 0))) first-whole refl (λ m k. absurd (List·Memᴰ·not-nil k)) (lit< tt)
+  first-after = after-whole u start 0 (first-checkpoint (numbered-first u 0)) (to-its-end u start (first-saved (numbered-first u 0)))
+      first-whole refl (λ m k. absurd (List·Memᴰ·not-nil k)) (lit< tt)
 
 -- a power-up
 module _ (u : Setup) (key-long : length (u .key) ≡ key-length) (s : State) (n k : ℕ) (x : After u s n k) (h : n < 2 ^ 96) where
@@ -167,7 +167,8 @@ module _ (u : Setup) (key-long : length (u .key) ≡ key-length) (s : State) (n 
         (refl, refl, new-here)
         (subst (λ (y : State). Holds u y) (sym is) (resuming-holds u s holds a (x .c) r (last-here .nonce-long) (last-here .staging) new-here fewer))
         (ap (λ (y : State). y .handed) is)
-        (ap (λ (y : State). y .journal .draft) is ∙ (λ i. some (record { checkpoint = next; origin = PowerUp; power-ups = r .restarts-are i + 1; stores = stores-of (u .key) (u .sizes .slots) (s .journal) next })))
+        (ap (λ (y : State). y .journal .draft) is
+        ∙ (λ i. some (record { checkpoint = next; origin = PowerUp; power-ups = r .restarts-are i + 1; stores = stores-of (u .key) (u .sizes .slots) (s .journal) next })))
         (ap (λ (y : State). y .journal .count) is) (ap (λ (y : State). y .nonces) is)
 
     power-after : After u (run u s (to-its-end u s (powered-up (numbered-power-up u n)))) (suc n) (suc k)
@@ -181,10 +182,9 @@ module _ (u : Setup) (key-long : length (u .key) ≡ key-length) (s : State) (n 
 
 found-newest : (ring : List ℕ) (pages slots count : ℕ) (owed : Bool) (r : List ℕ) → owed ≡ false → newest-record ring slots (found pages slots count owed) ≡ r
     → not-newest ring slots (found pages slots count owed) (page-of pages slots count) (slot-of slots count) r ≡ false
-unfolding not-newest
 found-newest ring pages slots count true r o e = no-fact o
 found-newest ring pages slots count false r o e =
-    rw (e, same-refl r, eq-eqb (page-of pages slots count) (page-of pages slots count) refl, eq-eqb (slot-of slots count) (slot-of slots count) refl)
+    is-newest ring slots (found pages slots count false) (page-of pages slots count) (slot-of slots count) r refl refl (sym e)
 
 module _ (u : Setup) (key-long : length (u .key) ≡ key-length) (s : State) (n k : ℕ) (x : After u s n k) (h : n < 2 ^ 96) where
   abbrev session-here : Session
@@ -259,9 +259,11 @@ module _ (u : Setup) (key-long : length (u .key) ≡ key-length) where
       let l : i < 2 ^ 96 = omega arith in
       let m : suc i + n < 2 ^ 96 = omega arith in
       let c : k < restart-limit = omega arith in
+      let e : suc i + n ≡ i + suc n = omega arith in
+      let e′ : suc k + n ≡ k + suc n = omega arith in
       let more = power-ups-row (suc i) n (suc k) (run u s events) (power-after u key-long s i k x l c) (omega arith) m in
       row-more u s events (power-ups-on u (suc i) n (run u s events)) (i + suc n) (k + suc n) (power-whole u key-long s i k x l c .allowed)
-      (subst₂ (λ (a b : ℕ). Row u (run u s events) (power-ups-on u (suc i) n (run u s events)) a b) (let e : suc i + n ≡ i + suc n = omega arith in e) (let e : suc k + n ≡ k + suc n = omega arith in e) more)
+      (subst₂ (λ (a b : ℕ). Row u (run u s events) (power-ups-on u (suc i) n (run u s events)) a b) e e′ more)
 
   saves-row : (i n : ℕ) (s : State) → (k : ℕ) → After u s i k → (k ≡ 0) → i + n < 2 ^ 96 → Row u s (saves-on u i n s) (i + n) 0
   unfolding saves-on with-session run Allowed
@@ -319,3 +321,14 @@ reachable u ring fram b f n k few h = record {
 
     r : Row u s events (n + 1 + k) k
     r = row-more u s first _ (n + 1 + k) k (first-whole u ring fram b f .allowed) (row-more u (run u s first) saves _ (n + 1 + k) k (rs .allowed) rp)
+
+smallest-fits : Fits smallest (erased (slot-length * 6)) (replicate fram-least 0)
+unfolding smallest ring-wrong fram-wrong
+smallest-fits = record { ring-right = refl; fram-right = refl; key-right = refl }
+
+pub examples : Examples
+unfolding Examples bench-state Reachable
+examples = (
+  reachable smallest (erased (slot-length * 6)) (replicate fram-least 0) (blank-erased (slot-length * 6)) smallest-fits 0 8 (lit≤ tt) (lit< tt),
+  reachable smallest (erased (slot-length * 6)) (replicate fram-least 0) (blank-erased (slot-length * 6)) smallest-fits 6 0 (lit≤ tt) (lit< tt),
+)

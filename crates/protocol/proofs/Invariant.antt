@@ -16,11 +16,11 @@ use Rattle.checkpoint.specs.Checkpoint.{Checkpoint, own-tag, sealed, sealed-len
 use Rattle.checkpoint.specs.Layout.{InRange}
 use Rattle.checkpoint.proofs.SealedLaws.{length-sealed}
 use Rattle.checkpoint.specs.Fram.{fram-wrong, half-length}
-use Rattle.protocol.specs.Calls.{Setup}
-use Rattle.protocol.specs.Journal.{Draft, Store, erase, word, record-slot, erase-if}
-use Rattle.protocol.specs.Operations.{finished}
-use Rattle.protocol.specs.History.{State, Handed}
 use Rattle.protocol.specs.Types.{Origin, Session, Phase, EraseFirst, Words, Record, EraseAfter, Done, Progress, GoingOn}
+use Rattle.protocol.specs.Calls.{Setup}
+use Rattle.protocol.specs.Operations.{finished}
+use Rattle.protocol.specs.Journal.{Draft, Store, erase, word, record-slot, erase-if}
+use Rattle.protocol.specs.History.{State, Handed}
 
 -- the half of the last of `count` records: they alternate, from half A on
 abbrev pub half-of : ℕ → ℕ
@@ -73,14 +73,18 @@ Durable u ring fram nonces entry count owed power-ups =
     Untouched ring entry count owed power-ups ⊎ ((c : Checkpoint) × Recorded u ring fram nonces entry count owed power-ups c)
 
 -- the same for the journal of state s, with these memories and this mark of an owed erase
-abbrev pub Durable-at : Setup → State → List ℕ → List ℕ → Bool → Type 0
-Durable-at u s ring fram owed = Durable u ring fram (s .nonces) (s .journal .entry) (s .journal .count) owed (s .journal .power-ups)
+abbrev pub DurableAt : Setup → State → List ℕ → List ℕ → Bool → Type 0
+DurableAt u s ring fram owed = Durable u ring fram (s .nonces) (s .journal .entry) (s .journal .count) owed (s .journal .power-ups)
+
+-- the draft of checkpoint c: once it is recorded, as many power-ups are as it has restarts
+abbrev pub draft-of : Checkpoint → Origin → List Store → Draft
+draft-of c origin stores = record { checkpoint = c; origin = origin; power-ups = c .restarts; stores = stores }
 
 -- a job matches the draft of checkpoint c, whose record is or will be the n-th, and `stores` are to come
 pub record Working (u : Setup) (s : State) (h : Handed) (n : ℕ) (stores : List Store) : Type 0 where
   pub c : Checkpoint
   pub origin : Origin
-  pub draft-is : s .journal .draft ≡ some (record { checkpoint = c; origin = origin; power-ups = c .restarts; stores = stores })
+  pub draft-is : s .journal .draft ≡ some (draft-of c origin stores)
   pub good : Good c (half-length (s .fram))
   pub nonce-known : List·Memᴰ (c .nonce) (s .nonces)
   pub length-is : h .job .length ≡ length (sealed (u .key) c)
@@ -105,7 +109,7 @@ last-erase u s = erase-if (ltb 0 (s .journal .count) && eqb (s .journal .count %
 abbrev pub Stored : Setup → State → Handed → ℕ → Checkpoint → Type 0
 Stored u s h n c = Written (s .fram) (h .job .half * half-length (s .fram)) n (sealed (u .key) c)
 
-pub record Erasing-first (u : Setup) (s : State) (h : Handed) (p : ℕ) : Type 0 where
+pub record ErasingFirst (u : Setup) (s : State) (h : Handed) (p : ℕ) : Type 0 where
   pub left : ℕ
   pub left-is : 4 * suc left ≡ h .job .length
   pub before : Before u s h (erase ∷ word ∷ (replicate left word ++ record-slot ∷ last-erase u s))
@@ -124,23 +128,23 @@ pub record Recording (u : Setup) (s : State) (h : Handed) : Type 0 where
   pub owed : s .journal .owed ≡ false
   pub stored : Stored u s h (h .job .length) (before .working .c)
 
-pub record Erasing-after (u : Setup) (s : State) (h : Handed) (p : ℕ) : Type 0 where
+pub record ErasingAfter (u : Setup) (s : State) (h : Handed) (p : ℕ) : Type 0 where
   pub working : Working u s h (s .journal .count) (erase ∷ [])
   pub recorded : s .journal .entry ≡ some (working .c)
   pub owed : s .journal .owed ≡ true
   pub page-is : p ≡ owed-page u s
 
 abbrev pub Doing : Setup → State → Handed → Phase → Type 0
-Doing u s h (EraseFirst p) = Erasing-first u s h p
+Doing u s h (EraseFirst p) = ErasingFirst u s h p
 Doing u s h (Words w) = Writing u s h w
 Doing u s h Record = Recording u s h
-Doing u s h (EraseAfter p) = Erasing-after u s h p
+Doing u s h (EraseAfter p) = ErasingAfter u s h p
 Doing u s h Done = (d : Draft) × (s .journal .draft ≡ some d) × (d .stores ≡ [])
 
 pub record Holds (u : Setup) (s : State) : Type 0 where
   pub ring-right : ring-wrong (u .sizes .pages) (u .sizes .slots) (s .ring) ≡ false
   pub fram-right : fram-wrong (s .fram) ≡ false
-  pub durable : Durable-at u s (s .ring) (s .fram) (s .journal .owed)
+  pub durable : DurableAt u s (s .ring) (s .fram) (s .journal .owed)
   pub sessions-known : (z : Session) → List·Memᴰ z (s .sessions) → List·Memᴰ (take nonce-length (z .latest)) (s .nonces)
   pub sessions-match : (z : Session) → List·Memᴰ z (s .sessions) → (c : Checkpoint) → s .journal .entry ≡ some c
       → take nonce-length (z .latest) ≡ c .nonce → z .tag ≡ own-tag (u .key) c
@@ -166,7 +170,7 @@ pub record Ended (u : Setup) (t : State) (c : Checkpoint) : Type 0 where
 pub record Moving (u : Setup) (t : State) (answer : Progress) (c : Checkpoint) (origin : Origin) (rest : List Store) : Type 0 where
   pub holds : Holds u t
   pub answered : answer ≡ answer-of origin rest
-  pub draft-is : t .journal .draft ≡ some (record { checkpoint = c; origin = origin; power-ups = c .restarts; stores = rest })
+  pub draft-is : t .journal .draft ≡ some (draft-of c origin rest)
   pub handed : Handed
   pub handed-is : t .handed ≡ some handed
   pub ended : rest ≡ [] → Ended u t c

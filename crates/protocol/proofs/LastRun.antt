@@ -11,18 +11,18 @@ use lib.Dec.{T, eqb, ltb}
 use lib.Seq.{take-append-seam}
 use Rattle.ring.specs.Ring.{newest-record}
 use Rattle.checkpoint.specs.Checkpoint.{Checkpoint, own-tag, sealed}
+use Rattle.protocol.specs.Types.{PowerUp, Progress, GoingOn, Restored}
 use Rattle.protocol.specs.Calls.{Advances, Setup, Event, first-saved, saved, powered-up, advanced-by, PowerLoss, lost-in-store}
-use Rattle.protocol.specs.Journal.{Journal, Store, word, record-slot, erase-if, stores-of}
 use Rattle.protocol.specs.Operations.{finished, ended, advance, newest-half}
+use Rattle.protocol.specs.Journal.{Journal, Store, word, record-slot, erase-if, stores-of}
 use Rattle.protocol.specs.History.{State, Handed, step, run, refused, is-stopped, Keeps}
-use Rattle.protocol.specs.Types.{Origin, Save, PowerUp, Progress, GoingOn, Restored}
 use Rattle.protocol.specs.Recovery.{is-advance, Uninterrupted, answered, answers, with-handed, advances-of, Stands}
-use Rattle.protocol.proofs.Invariant.{page-in, slot-in, Durable-at, Recorded, Holds, answer-of, Ended, Moving}
-use Rattle.protocol.proofs.Advances.{call}
-use Rattle.protocol.proofs.Advancing.{advancing}
-use Rattle.protocol.proofs.Refused.{T→true, step-refused}
 use Rattle.protocol.proofs.Facts.{T-true}
+use Rattle.protocol.proofs.Invariant.{draft-of, page-in, slot-in, DurableAt, Recorded, Holds, answer-of, Ended, Moving}
 use Rattle.protocol.proofs.Reading.{record-found, reads, nonce-found, newest-half-is}
+use Rattle.protocol.proofs.Refused.{T→true, step-refused}
+use Rattle.protocol.proofs.Advances.{call}
+use Rattle.protocol.proofs.Advancing.{advancing, going}
 
 stands : (u : Setup) (t : State) (new : Checkpoint) → Holds u t → Ended u t new → Stands u t new
 unfolding newest-record newest-half
@@ -39,13 +39,18 @@ stands u t new inv x = go (inv .durable)
           (newest-half-is (inv .fram-right) r)
           ∙ take-append-seam (sealed (u .key) c) _;
       earlier = z .earlier;
-      session = z .session ∙ (λ i. record { page = page-in u (t .journal .count); slot = slot-in u (t .journal .count); latest = sym (record-found (inv .fram-right) r) i; tag = own-tag (u .key) c } ∷ z .earlier);
+      session = z .session ∙ (λ i. record {
+        page = page-in u (t .journal .count);
+        slot = slot-in u (t .journal .count);
+        latest = sym (record-found (inv .fram-right) r) i;
+        tag = own-tag (u .key) c;
+      } ∷ z .earlier);
     })
 
     same-entry : (c : Checkpoint) → t .journal .entry ≡ some c → c ≡ new
     same-entry c p = let e = x .entry in cc
 
-    go : Durable-at u t (t .ring) (t .fram) (t .journal .owed) → Stands u t new
+    go : DurableAt u t (t .ring) (t .fram) (t .journal .owed) → Stands u t new
     go (inl y) = absurd (let p = y .no-entry in let e = x .entry in let z : _≡_ {A = ℕ} 0 1 = cc in omega arith)
     go (inr (c, r)) = recorded-stands c (subst (λ (b : Bool). Recorded u (t .ring) (t .fram) (t .nonces) (t .journal .entry) (t .journal .count) b (t .journal .power-ups) c) (x .owed) r)
         (same-entry c (r .entry-is)) (subst (λ (y : Checkpoint). Ended u t y) (sym (same-entry c (r .entry-is))) x)
@@ -108,7 +113,7 @@ answering u (e ∷ more) s (inr (t, p), k) = answering-advance u s e more t p (a
 
 -- from any state in which `stores` are left of the draft `new` of a power-up
 abbrev pub Ends : Setup → Checkpoint → List Event → Type 0
-Ends u new events = (t : State) → Holds u t → (stores : List Store) → t .journal .draft ≡ some (record { checkpoint = new; origin = PowerUp; power-ups = new .restarts; stores = stores })
+Ends u new events = (t : State) → Holds u t → (stores : List Store) → t .journal .draft ≡ some (draft-of new PowerUp stores)
     → (stores ≡ [] → Ended u t new) → (answers : List Progress) → Answering u t events answers → length answers ≡ length stores
     → (answers ≡ answers-of stores) × Stands u (run u t events) new
 
@@ -125,7 +130,7 @@ ends-nil u new t inv stores d f answers k l =
 ends-cons : (u : Setup) (new : Checkpoint) (e : Event) (more : List Event) → Ends u new more → Ends u new (e ∷ more)
 unfolding Answering run
 ends-cons u new e more ih t inv stores d f answers (inl (r, k)) l =
-    let all = subst (λ (y : State). Holds u y × (y .journal .draft ≡ some (record { checkpoint = new; origin = PowerUp; power-ups = new .restarts; stores = stores }))
+    let all = subst (λ (y : State). Holds u y × (y .journal .draft ≡ some (draft-of new PowerUp stores))
     × (stores ≡ [] → Ended u y new)) (sym (step-refused u t e r)) (inv, d, f) in
     ih (step u t e) (all .0) stores (all .1) (all .2) answers k l
 ends-cons u new e more ih t inv [] d f answers (inr (a, e′, z, h, later, q, k)) l =
@@ -150,12 +155,6 @@ pub advances-on : (u : Setup) (n : ℕ) (t : State) (h : Handed) → t .handed �
 unfolding advances-of with-handed
 advances-on u n t h e = ap (λ (o : Option Handed). with-handed o (λ h. advanced-by (call u h) ∷ advances-of u n (step u t (advanced-by (call u h))))) e
 
-pub going : (origin : Origin) (rest : List Store) → is-stopped (answer-of origin rest) ≡ false
-unfolding is-stopped finished
-going Save [] = refl
-going PowerUp [] = refl
-going origin (x ∷ rest) = refl
-
 runs-more : (u : Setup) (t : State) (h : Handed) (n : ℕ) → t .handed ≡ some h → is-stopped (advance (t .ring) (t .fram) (call u h) .progress) ≡ false
     → Uninterrupted u (step u t (advanced-by (call u h))) (advances-of u n (step u t (advanced-by (call u h))))
     → length (answers u (advances-of u n (step u t (advanced-by (call u h)))) (step u t (advanced-by (call u h)))) ≡ n
@@ -166,7 +165,7 @@ runs-more u t h n e r k l =
     ((inr (tt, (refl, e)), k), ap (λ (a : List Progress). length a) (advance-answers u t (call u h) (advances-of u n (step u t (advanced-by (call u h)))) r) ∙ ap suc l)
 
 pub runs-on : (u : Setup) (new : Checkpoint) (stores : List Store) (t : State) (h : Handed) → Holds u t → t .handed ≡ some h
-    → t .journal .draft ≡ some (record { checkpoint = new; origin = PowerUp; power-ups = new .restarts; stores = stores })
+    → t .journal .draft ≡ some (draft-of new PowerUp stores)
     → Uninterrupted u t (advances-of u (length stores) t) × (length (answers u (advances-of u (length stores) t) t) ≡ length stores)
 unfolding Uninterrupted answers advances-of
 runs-on u new [] t h inv e d = (tt, refl)

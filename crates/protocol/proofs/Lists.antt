@@ -12,17 +12,17 @@ use Rattle.checkpoint.specs.Fram.{fram-wrong}
 use Rattle.protocol.specs.Calls.{Setup, Event, first-saved, saved, powered-up, advanced-by, PowerLoss, lost-in-store}
 use Rattle.protocol.specs.Journal.{empty}
 use Rattle.protocol.specs.History.{State, fresh, step, run, refused, Keeps, Allowed}
-use Rattle.protocol.specs.Recovery.{Told, Exactly}
+use Rattle.protocol.specs.Recovery.{Follows, Exactly}
 use Rattle.protocol.proofs.Invariant.{Holds}
 use Rattle.protocol.proofs.Refused.{step-refused}
 use Rattle.protocol.proofs.Exact.{exact}
-use Rattle.protocol.proofs.Told.{told}
 use Rattle.protocol.proofs.Unfit.{Unfit, unfit-step, unfit-told}
-use Rattle.protocol.proofs.PowerLosses.{hold-power-loss, hold-lost-in-store}
 use Rattle.protocol.proofs.Advancing.{hold-advanced}
+use Rattle.protocol.proofs.Told.{told}
 use Rattle.protocol.proofs.FirstSaves.{hold-first}
 use Rattle.protocol.proofs.Saves.{hold-saved}
 use Rattle.protocol.proofs.PowerUps.{hold-powered-up}
+use Rattle.protocol.proofs.PowerLosses.{hold-power-loss, hold-lost-in-store}
 
 pub hold-step : (u : Setup) (s : State) (e : Event) → Holds u s → T (refused s e) ⊎ Keeps u s e → Holds u (step u s e)
 hold-step u s e inv (inl t) = rw (step-refused u s e t) inv
@@ -38,26 +38,25 @@ unfolding run Allowed
 hold-run u [] s inv k = inv
 hold-run u (e ∷ more) s inv k = hold-run u more (step u s e) (hold-step u s e inv (k .0)) (k .1)
 
-tells : (u : Setup) (s : State) (e : Event) → Holds u s → T (refused s e) ⊎ Keeps u s e → Told u s e
-unfolding Told
-tells u s (first-saved a) inv k = tt
-tells u s (saved a) inv k = tt
-tells u s (powered-up a) inv k = tt
-tells u s (advanced-by a) inv (inl t) = inl t
-tells u s (advanced-by a) inv (inr k) = unfold Told in told u s inv a k
-tells u s PowerLoss inv k = tt
-tells u s (lost-in-store left) inv k = tt
+tells : (u : Setup) (s : State) (e : Event) → Holds u s → Follows u s e
+unfolding Follows
+tells u s (first-saved a) inv = tt
+tells u s (saved a) inv = tt
+tells u s (powered-up a) inv = tt
+tells u s (advanced-by a) inv = told u s inv a
+tells u s PowerLoss inv = tt
+tells u s (lost-in-store left) inv = tt
 
 pub exactly : (u : Setup) (events : List Event) (s : State) → Holds u s → Allowed u s events → Exactly u s events
 unfolding Exactly Allowed
 exactly u [] s inv k = tt
-exactly u (e ∷ more) s inv k = (exact s e, tells u s e inv (k .0), exactly u more (step u s e) (hold-step u s e inv (k .0)) (k .1))
+exactly u (e ∷ more) s inv k = (exact s e, tells u s e inv, exactly u more (step u s e) (hold-step u s e inv (k .0)) (k .1))
 
 -- with memories that don't fit
 pub exactly-unfit : (u : Setup) (events : List Event) (s : State) → Unfit u s → Allowed u s events → Exactly u s events
 unfolding Exactly Allowed
 exactly-unfit u [] s x k = tt
-exactly-unfit u (e ∷ more) s x k = (exact s e, unfit-told u s x e (k .0), exactly-unfit u more (step u s e) (unfit-step u s x e (k .0)) (k .1))
+exactly-unfit u (e ∷ more) s x k = (exact s e, unfit-told u s x e, exactly-unfit u more (step u s e) (unfit-step u s x e (k .0)) (k .1))
 
 pub hold-fresh : (u : Setup) (ring fram : List ℕ) → ring-wrong (u .sizes .pages) (u .sizes .slots) ring ≡ false → fram-wrong fram ≡ false → blank ring ≡ true → Holds u (fresh ring fram)
 unfolding fresh empty

@@ -1,43 +1,31 @@
 -- What look and its companion answer after any list.
 use Prim.Native.Nat.{ℕ, _+_, _*_, _≤_}
-use mathlib.Core.Path.{_≡_, sym, ap, subst, _∙_}
+use mathlib.Core.Path.{_≡_, subst, _∙_}
 use mathlib.Core.Bool.{true, false, not}
 use mathlib.Core.Logic.{inl, inr}
 use mathlib.Core.Option.{none, some}
-use mathlib.Core.List.{List}
 use native.Mathlib.Omega.{arith}
-use lib.ListN.{length, drop}
+use lib.ListN.{length}
 use lib.Dec.{eqb}
 use borrow.Author.Tests.{eq-eqb}
 use Rattle.octets.specs.Limits.{key-length}
 use Rattle.octets.specs.Octets.{part, blank}
-use Rattle.octets.proofs.Laws.{part-take, part-drop}
 use Rattle.stops.specs.Stops.{first-of}
 use Rattle.ring.specs.Ring.{Newest, half-named, newest-record}
 use Rattle.ring.proofs.RingLaws.{read-blank}
 use Rattle.ring.proofs.FoundLaws.{found, not-blank, not-unreadable}
 use Rattle.checkpoint.specs.Checkpoint.{Checkpoint, head-length}
-use Rattle.checkpoint.specs.Half.{open-length, stored, stored-open}
-use Rattle.checkpoint.specs.Fram.{half-length, half-at}
-use Rattle.checkpoint.proofs.HalfLaws.{open-length-is}
+use Rattle.checkpoint.specs.Half.{open-length, stored-open}
+use Rattle.checkpoint.specs.Fram.{half-length}
+use Rattle.checkpoint.proofs.HalfLaws.{open-length-is, open-is, open-stretched}
 use Rattle.protocol.specs.Types.{Restarts}
 use Rattle.protocol.specs.Calls.{Setup}
 use Rattle.protocol.specs.Operations.{newest-half, look-stop, look-by, look, stretch-by, open-stretch, stretch-of}
 use Rattle.protocol.specs.History.{State}
 use Rattle.protocol.specs.Recovery.{looks, Seen}
-use Rattle.protocol.proofs.Invariant.{Durable-at, Holds}
+use Rattle.protocol.proofs.Invariant.{DurableAt, Holds}
+use Rattle.protocol.proofs.Reading.{reads, head-found, tag-found, restarts-found, newest-half-is, behind}
 use Rattle.protocol.proofs.PowerUps.{Entry}
-use Rattle.protocol.proofs.Reading.{reads, head-found, tag-found, restarts-found, checkpoint-found, newest-half-is, behind}
-
-part-part : (xs : List ℕ) (b n i m : ℕ) → i + m ≤ n → part xs (b + i) m ≡ part (part xs b n) i m
-unfolding part
-part-part xs b n i m l = sym (part-take (drop b xs) n i m l ∙ part-drop xs b i m)
-
--- the open part of a half, as a stretch of the image
-stretch-in-half : (fram : List ℕ) (half : ℕ) → head-length + open-length (half-at fram half) ≤ half-length fram
-    → part fram (half * half-length fram + head-length) (open-length (half-at fram half)) ≡ stored-open (half-at fram half)
-unfolding stored-open half-at
-stretch-in-half fram half l = part-part fram (half * half-length fram) (half-length fram) head-length (open-length (part fram (half * half-length fram) (half-length fram))) l
 
 module _ (u : Setup) (s : State) (inv : Holds u s) (key-long : length (u .key) ≡ key-length) where
   key-passes : not (eqb (length (u .key)) key-length) ≡ false
@@ -70,8 +58,7 @@ module _ (u : Setup) (s : State) (inv : Holds u s) (key-long : length (u .key) �
     restarts-seen = rw (look-passes, reads (inv .fram-right) r, restarts-found (inv .fram-right) r)
 
     open-stored : stored-open (newest-half (s .ring) (s .fram) (u .sizes .slots) n) ≡ c .open-part
-    unfolding stored
-    open-stored = ap (λ (y : Checkpoint). y .open-part) (checkpoint-found (inv .fram-right) r)
+    open-stored = rw (newest-half-is (inv .fram-right) r) (open-is (u .key) c (behind (inv .fram-right) r) (r .good .range))
 
     open-fits : head-length + open-length (newest-half (s .ring) (s .fram) (u .sizes .slots) n) ≤ half-length (s .fram)
     open-fits =
@@ -82,7 +69,7 @@ module _ (u : Setup) (s : State) (inv : Holds u s) (key-long : length (u .key) �
     stretch-seen : part (s .fram) (half-named (newest-record (s .ring) (u .sizes .slots) n) * half-length (s .fram) + head-length) (open-length (newest-half (s .ring) (s .fram) (u .sizes .slots) n))
         ≡ stored-open (newest-half (s .ring) (s .fram) (u .sizes .slots) n)
     unfolding newest-half
-    stretch-seen = stretch-in-half (s .fram) (half-named (newest-record (s .ring) (u .sizes .slots) n)) open-fits
+    stretch-seen = open-stretched (s .fram) (half-named (newest-record (s .ring) (u .sizes .slots) n)) open-fits
 
     open-seen : stretch-of (s .fram) (open-stretch (s .ring) (s .fram) (looks u)) ≡ c .open-part
     unfolding open-stretch stretch-by stretch-of
@@ -92,7 +79,7 @@ module _ (u : Setup) (s : State) (inv : Holds u s) (key-long : length (u .key) �
   unfolding look look-by
   seen = go (inv .durable)
     where
-      go : Durable-at u s (s .ring) (s .fram) (s .journal .owed) → Seen u s
+      go : DurableAt u s (s .ring) (s .fram) (s .journal .owed) → Seen u s
       go (inl x) = record {
         nothing = λ q. rw (look-blank (x .ring-blank));
         restarts = λ c q. absurd (let p = x .no-entry in let z : _≡_ {A = ℕ} 0 1 = cc in omega arith);

@@ -7,23 +7,23 @@ use mathlib.Core.Option.{Option, none, some}
 use mathlib.Core.List.{List, _∷_, _++_, List·Memᴰ}
 use native.Mathlib.Omega.{arith}
 use native.Mathlib.Nat.{mod-lt}
-use lib.ListN.{length, take, drop, replicate, take-append-drop}
-use lib.Seq.{drop-drop}
+use lib.ListN.{length, take, replicate}
 use Rattle.octets.specs.Limits.{slot-length, nonce-length}
-use Rattle.octets.specs.Octets.{part, put, blank, erased}
-use Rattle.octets.proofs.Laws.{length-put, length-part, is-erased, blank-erased}
+use Rattle.octets.specs.Octets.{put, blank, erased}
+use Rattle.octets.proofs.Laws.{length-put, blank-erased}
+use Rattle.ring.proofs.StoreLaws.{put-blank}
 use Rattle.ring.specs.Ring.{slot-at, ring-wrong, record-of, page-put, record-put}
 use Rattle.ring.proofs.SizeLaws.{Sized, sized, slot-ends}
 use Rattle.ring.proofs.RecordLaws.{length-record, is-record-of, record-used}
 use Rattle.checkpoint.specs.Checkpoint.{Checkpoint, own-tag}
 use Rattle.checkpoint.specs.Fram.{fram-wrong, half-length}
 use Rattle.checkpoint.proofs.FramLaws.{fram-kept, half-within}
-use Rattle.protocol.specs.Calls.{Setup, PowerLoss, lost-in-store}
-use Rattle.protocol.specs.Journal.{entered, lost-into, Journal, Draft, Store, erase, word, record-slot, erase-if, to-come, made, dropped, whole}
-use Rattle.protocol.specs.Operations.{job-record, recorded}
-use Rattle.protocol.specs.History.{State, Handed, broken-ring, broken-fram, broken, step, Left, Keeps, left-by}
 use Rattle.protocol.specs.Types.{Origin, Session, Phase, EraseFirst, Words, Record, EraseAfter, Done}
-use Rattle.protocol.proofs.Invariant.{sealed-fits, half-of, owed-page, Durable-at, Recorded, Durable, Working, last-erase, Writing, Recording, Doing, Holds}
+use Rattle.protocol.specs.Calls.{Setup, PowerLoss, lost-in-store}
+use Rattle.protocol.specs.Operations.{job-record, recorded}
+use Rattle.protocol.specs.Journal.{entered, lost-into, Journal, Draft, Store, erase, word, record-slot, erase-if, to-come, made, dropped, whole}
+use Rattle.protocol.specs.History.{State, Handed, broken-ring, broken-fram, broken, step, Left, Keeps, left-by}
+use Rattle.protocol.proofs.Invariant.{draft-of, sealed-fits, half-of, owed-page, DurableAt, Recorded, Durable, Working, last-erase, Writing, Recording, Doing, Holds}
 use Rattle.protocol.proofs.Advances.{erase-durable, fram-durable}
 use Rattle.protocol.proofs.Records.{recorded-durable, recorded-is, none-match, record-at, full, next-slot-blank, owing}
 
@@ -56,52 +56,38 @@ to-come-erase false = refl
 
 -- the journal after a power loss in an erase
 lost-erase : (j : Journal) (c : Checkpoint) (origin : Origin) (rest : List Store) (left : List ℕ)
-    → j .draft ≡ some (record { checkpoint = c; origin = origin; power-ups = c .restarts; stores = erase ∷ rest }) → j .owed ≡ true
+    → j .draft ≡ some (draft-of c origin (erase ∷ rest)) → j .owed ≡ true
     → lost-into j (j .draft) left ≡ record { entry = j .entry; count = j .count; owed = not (blank left); power-ups = j .power-ups; draft = none }
 unfolding lost-into whole made dropped
 lost-erase j c origin rest left d o =
     ap (λ (x : Option Draft). lost-into j x left) d ∙ go (blank left)
   where
-    go : (b : Bool) → dropped (cond b (made j (record { checkpoint = c; origin = origin; power-ups = c .restarts; stores = erase ∷ rest }) (erase ∷ rest)) j)
+    go : (b : Bool) → dropped (cond b (made j (draft-of c origin (erase ∷ rest)) (erase ∷ rest)) j)
         ≡ record { entry = j .entry; count = j .count; owed = not b; power-ups = j .power-ups; draft = none }
     go true = refl
     go false = ap (λ (b : Bool). record { entry = j .entry; count = j .count; owed = b; power-ups = j .power-ups; draft = none }) o
 
 lost-word : (j : Journal) (c : Checkpoint) (origin : Origin) (rest : List Store) (left : List ℕ)
-    → j .draft ≡ some (record { checkpoint = c; origin = origin; power-ups = c .restarts; stores = word ∷ rest }) → lost-into j (j .draft) left ≡ dropped j
+    → j .draft ≡ some (draft-of c origin (word ∷ rest)) → lost-into j (j .draft) left ≡ dropped j
 unfolding lost-into whole
 lost-word j c origin rest left d = ap (λ (x : Option Draft). lost-into j x left) d
 
 lost-record : (j : Journal) (c : Checkpoint) (origin : Origin) (b : Bool) (left : List ℕ)
-    → j .draft ≡ some (record { checkpoint = c; origin = origin; power-ups = c .restarts; stores = record-slot ∷ erase-if b }) → blank left ≡ false
+    → j .draft ≡ some (draft-of c origin (record-slot ∷ erase-if b)) → blank left ≡ false
     → lost-into j (j .draft) left ≡ record { entry = some c; count = j .count + 1; owed = b; power-ups = c .restarts; draft = none }
 unfolding lost-into whole made dropped
 lost-record j c origin b left d e =
     ap (λ (x : Option Draft). lost-into j x left) d
-    ∙ ap (λ (x : Bool). dropped (cond (not x) (made j (record { checkpoint = c; origin = origin; power-ups = c .restarts; stores = record-slot ∷ erase-if b }) (record-slot ∷ erase-if b)) j)) e
+    ∙ ap (λ (x : Bool). dropped (cond (not x) (made j (draft-of c origin (record-slot ∷ erase-if b)) (record-slot ∷ erase-if b)) j)) e
     ∙ ap (λ (x : Bool). record { entry = some c; count = j .count + 1; owed = x; power-ups = c .restarts; draft = none }) (to-come-erase b)
 
 lost-no-record : (j : Journal) (c : Checkpoint) (origin : Origin) (rest : List Store) (left : List ℕ)
-    → j .draft ≡ some (record { checkpoint = c; origin = origin; power-ups = c .restarts; stores = record-slot ∷ rest }) → blank left ≡ true
+    → j .draft ≡ some (draft-of c origin (record-slot ∷ rest)) → blank left ≡ true
     → lost-into j (j .draft) left ≡ dropped j
 unfolding lost-into whole
 lost-no-record j c origin rest left d e =
     ap (λ (x : Option Draft). lost-into j x left) d
-    ∙ ap (λ (x : Bool). dropped (cond (not x) (made j (record { checkpoint = c; origin = origin; power-ups = c .restarts; stores = record-slot ∷ rest }) (record-slot ∷ rest)) j)) e
-
-put-part : (xs : List ℕ) (i n : ℕ) → i + n ≤ length xs → put xs i (part xs i n) ≡ xs
-unfolding put part
-put-part xs i n l =
-    rw (length-part xs i n l, ← (drop-drop n i xs), take-append-drop n (drop i xs)) (take-append-drop i xs)
-
--- blank bytes over a blank slot
-put-blank : (ring : List ℕ) (slots page slot : ℕ) → slot-length * (page * slots + slot) + slot-length ≤ length ring → blank (slot-at ring slots page slot) ≡ true
-    → record-put ring slots page slot (erased slot-length) ≡ ring
-unfolding slot-at record-put
-put-blank ring slots page slot l b =
-    let off = slot-length * (page * slots + slot) in
-    let e : part ring off slot-length ≡ erased slot-length = is-erased (part ring off slot-length) b ∙ ap erased (length-part ring off slot-length l) in
-    subst (λ (y : List ℕ). put ring off y ≡ ring) e (put-part ring off slot-length l)
+    ∙ ap (λ (x : Bool). dropped (cond (not x) (made j (draft-of c origin (record-slot ∷ rest)) (record-slot ∷ rest)) j)) e
 
 module _ (u : Setup) (s : State) (inv : Holds u s) (h : Handed) (left : List ℕ) where
   -- the state after a power loss in the store of phase `p`
@@ -115,7 +101,7 @@ module _ (u : Setup) (s : State) (inv : Holds u s) (h : Handed) (left : List ℕ
     journal = j;
   }
 
-  loss-in-erase : (p : ℕ) (c : Checkpoint) (origin : Origin) (rest : List Store) → s .journal .draft ≡ some (record { checkpoint = c; origin = origin; power-ups = c .restarts; stores = erase ∷ rest })
+  loss-in-erase : (p : ℕ) (c : Checkpoint) (origin : Origin) (rest : List Store) → s .journal .draft ≡ some (draft-of c origin (erase ∷ rest))
       → s .journal .owed ≡ true → p ≡ owed-page u s → length left ≡ slot-length * u .sizes .slots
       → Holds u (record {
         ring = page-put (s .ring) (u .sizes .slots) p left;
@@ -150,7 +136,7 @@ module _ (u : Setup) (s : State) (inv : Holds u s) (h : Handed) (left : List ℕ
           × Durable u (page-put (s .ring) (u .sizes .slots) (owed-page u s) left) (s .fram) (s .nonces)
           (s .journal .entry) (s .journal .count) (not (blank left)) (s .journal .power-ups)
       x = erase-durable left l
-          (subst (λ (b : Bool). Durable-at u s (s .ring) (s .fram) b) o (inv .durable))
+          (subst (λ (b : Bool). DurableAt u s (s .ring) (s .fram) b) o (inv .durable))
 
   loss-in-word : (w : ℕ) → Writing u s h w → length left ≡ 4
       → Holds u (record {
@@ -183,7 +169,7 @@ module _ (u : Setup) (s : State) (inv : Holds u s) (h : Handed) (left : List ℕ
       same-half : h .job .half * half-length (s .fram) ≡ half-of (s .journal .count + 1) * half-length (s .fram)
       same-half = ap (λ (y : ℕ). y * half-length (s .fram)) (k .half-is)
 
-      durable : Durable-at u s (s .ring) fram (s .journal .owed)
+      durable : DurableAt u s (s .ring) fram (s .journal .owed)
       durable = fram-durable left (h .job .half * half-length (s .fram) + 4 * w) (inv .fram-right) (omega (arith, same-half)) (omega (arith, same-half, long, d .left-is)) (inv .durable)
 
   loss-in-record : (d : Recording u s h) → (left ≡ job-record (h .job)) ⊎ (left ≡ erased slot-length)
@@ -221,7 +207,8 @@ module _ (u : Setup) (s : State) (inv : Holds u s) (h : Handed) (left : List ℕ
           (is-record-of (h .job .nonce) (h .job .half) l (rw (k .half-is) (omega arith))))
   loss-in-record d (inr e) =
       subst₂ (λ (ring : List ℕ) (j : Journal). Holds u (record { ring = ring; fram = s .fram; handed = none; sessions = s .sessions; nonces = s .nonces; journal = j }))
-      (sym (ap (λ (l : List ℕ). record-put (s .ring) (u .sizes .slots) (h .job .page) (h .job .slot) l) e ∙ put-blank (s .ring) (u .sizes .slots) (h .job .page) (h .job .slot) within slot-blank))
+      (sym (ap (λ (l : List ℕ). record-put (s .ring) (u .sizes .slots) (h .job .page) (h .job .slot) l) e
+      ∙ put-blank (s .ring) (u .sizes .slots) (h .job .page) (h .job .slot) within slot-blank))
       (sym (lost-no-record (s .journal) (k .c) (k .origin) (last-erase u s) left (k .draft-is) (ap blank e ∙ blank-erased slot-length)))
       (hold-dropped u s inv)
     where
@@ -251,4 +238,6 @@ module _ (u : Setup) (s : State) (inv : Holds u s) (h : Handed) (left : List ℕ
 
 pub hold-lost-in-store : (u : Setup) (s : State) (left : List ℕ) → Holds u s → Keeps u s (lost-in-store left) → Holds u (step u s (lost-in-store left))
 unfolding step left-by entered broken Keeps
-hold-lost-in-store u s left inv (h, e, l) = subst (λ (o : Option Handed). Holds u (broken u s o left (lost-into (s .journal) (s .journal .draft) left))) (sym e) (loss-in-phase u s inv h left (h .job .phase) (inv .doing h e) l)
+hold-lost-in-store u s left inv (h, e, l) =
+    subst (λ (o : Option Handed). Holds u (broken u s o left (lost-into (s .journal) (s .journal .draft) left))) (sym e)
+    (loss-in-phase u s inv h left (h .job .phase) (inv .doing h e) l)

@@ -11,23 +11,21 @@ use lib.Dec.{eqb}
 use borrow.Author.Tests.{eqb-true, eqb-false, ltb-false, not-false}
 use Rattle.octets.specs.Limits.{restart-limit, nonce-length}
 use Rattle.octets.specs.Octets.{put}
-use Rattle.stops.proofs.Laws.{neither}
+use Rattle.stops.proofs.Laws.{neither, passes}
 use Rattle.ring.specs.Ring.{read-ring, half-named, target-page, target-slot, newest-record, is-blank, Newest}
 use Rattle.ring.proofs.FoundLaws.{found}
 use Rattle.checkpoint.specs.Checkpoint.{Checkpoint, sealed}
 use Rattle.checkpoint.specs.Half.{stored-restarts}
 use Rattle.checkpoint.specs.Fram.{half-length}
 use Rattle.checkpoint.proofs.SealedLaws.{length-own-tag}
-use Rattle.protocol.specs.Calls.{PowersUp, Setup, powered-up}
-use Rattle.protocol.specs.Journal.{entered, resumed-entry, Journal, drafted, power-up-draft}
-use Rattle.protocol.specs.Operations.{key-wrong, nonce-wrong, staging-wrong, Begin, begin, job-of, newest-half, newest-checkpoint, resumed, first-phase, power-up-stop, power-up}
-use Rattle.protocol.specs.History.{State, begun, step, Keeps, left-by, refused, is-stop}
 use Rattle.protocol.specs.Types.{PowerUp, Job, Phase}
+use Rattle.protocol.specs.Calls.{PowersUp, Setup, powered-up}
+use Rattle.protocol.specs.Operations.{key-wrong, nonce-wrong, staging-wrong, Begin, begin, job-of, newest-half, newest-checkpoint, resumed, first-phase, power-up-stop, power-up}
+use Rattle.protocol.specs.Journal.{entered, resumed-entry, Journal, drafted, power-up-draft}
+use Rattle.protocol.specs.History.{State, begun, step, Keeps, left-by, refused, is-stop}
 use Rattle.protocol.proofs.Invariant.{Good, half-of, page-in, slot-in, Recorded, Holds}
-use Rattle.protocol.proofs.Facts.{passed}
-use Rattle.protocol.proofs.Starts.{Begins, started, start-holds}
 use Rattle.protocol.proofs.Reading.{reads, target-page-found, target-slot-found, other-half, restarts-found, checkpoint-found}
-use Rattle.protocol.proofs.Starts.{begun-stopped, begun-none}
+use Rattle.protocol.proofs.Starts.{Begins, started, start-holds, begun-stopped, begun-none}
 use Rattle.protocol.proofs.Saves.{in-use-recorded}
 
 abbrev pub power-call : Setup → PowersUp → PowersUp
@@ -53,7 +51,8 @@ module _ (u : Setup) (s : State) (inv : Holds u s) (a : PowersUp) (c : Checkpoin
   opened = rw reads-as (checkpoint-found (inv .fram-right) r)
 
   pub power-up-is : power-up (s .ring) (s .fram) (power-call u a)
-      ≡ begin (power-up-stop (s .ring) (s .fram) (power-call u a)) (u .key) (power-up-draft (u .key) (a .nonce) c) (resuming-job u s (power-up-draft (u .key) (a .nonce) c)) (a .staging) (a .state) (c .secret)
+      ≡ begin (power-up-stop (s .ring) (s .fram) (power-call u a)) (u .key) (power-up-draft (u .key) (a .nonce) c)
+      (resuming-job u s (power-up-draft (u .key) (a .nonce) c)) (a .staging) (a .state) (c .secret)
   unfolding power-up resumed power-up-draft
   power-up-is = λ i. F (opened i) (phase i) (half i) (page i) (slot i)
     where
@@ -101,15 +100,18 @@ module _ (u : Setup) (s : State) (inv : Holds u s) (a : PowersUp) (c : Checkpoin
         fits = r .good .fits;
       }
 
-  resumed-draft : resumed-entry (u .key) (a .nonce) (s .journal .entry) (s .journal) (u .sizes .slots) ≡ drafted (u .key) (u .sizes .slots) PowerUp (power-up-draft (u .key) (a .nonce) c) (s .journal .power-ups + 1) (s .journal)
+  resumed-draft : resumed-entry (u .key) (a .nonce) (s .journal .entry) (s .journal) (u .sizes .slots)
+      ≡ drafted (u .key) (u .sizes .slots) PowerUp (power-up-draft (u .key) (a .nonce) c) (s .journal .power-ups + 1) (s .journal)
   unfolding resumed-entry
   resumed-draft = ap (λ (o : Option Checkpoint). resumed-entry (u .key) (a .nonce) o (s .journal) (u .sizes .slots)) (r .entry-is)
 
   pub step-is : power-up-stop (s .ring) (s .fram) (power-call u a) ≡ none
-      → step u s (powered-up (power-call u a)) ≡ started u s (power-up-draft (u .key) (a .nonce) c) PowerUp (s .journal .power-ups + 1) (resuming-job u s (power-up-draft (u .key) (a .nonce) c)) (a .staging)
+      → step u s (powered-up (power-call u a))
+      ≡ started u s (power-up-draft (u .key) (a .nonce) c) PowerUp (s .journal .power-ups + 1) (resuming-job u s (power-up-draft (u .key) (a .nonce) c)) (a .staging)
   unfolding step left-by entered refused power-up-draft
   step-is e =
-      ap (λ (b : Begin). begun s (b .answer) b (a .nonce) (cond (is-stop (b .answer)) (s .journal) (resumed-entry (u .key) (a .nonce) (s .journal .entry) (s .journal) (u .sizes .slots)))) power-up-is
+      ap (λ (b : Begin). begun s (b .answer) b (a .nonce)
+      (cond (is-stop (b .answer)) (s .journal) (resumed-entry (u .key) (a .nonce) (s .journal .entry) (s .journal) (u .sizes .slots)))) power-up-is
       ∙ begun-none s (power-up-stop (s .ring) (s .fram) (power-call u a)) _ _ _ _ _ _ _ _ e
       ∙ ap (λ (j : Journal). record {
         ring = s .ring;
@@ -122,29 +124,24 @@ module _ (u : Setup) (s : State) (inv : Holds u s) (a : PowersUp) (c : Checkpoin
 
 -- ---- the conditions
 
-record Power-passes (u : Setup) (ring fram : List ℕ) (a : PowersUp) : Type 0 where
+record PowerUpPasses (u : Setup) (ring fram : List ℕ) (a : PowersUp) : Type 0 where
   nonce-long : length (a .nonce) ≡ nonce-length
   staging-long : half-length fram ≤ length (a .staging)
   in-use : is-blank (read-ring ring (u .sizes .pages) (u .sizes .slots)) ≡ false
   few : eqb (stored-restarts (newest-half ring fram (u .sizes .slots) (read-ring ring (u .sizes .pages) (u .sizes .slots)))) restart-limit ≡ false
 
-power-passes : (u : Setup) (ring fram : List ℕ) (a : PowersUp) → power-up-stop ring fram (power-call u a) ≡ none → Power-passes u ring fram a
+power-passes : (u : Setup) (ring fram : List ℕ) (a : PowersUp) → power-up-stop ring fram (power-call u a) ≡ none → PowerUpPasses u ring fram a
 unfolding power-up-stop staging-wrong
 power-passes u ring fram a e =
-    let e₁ = passed _ _ _ (passed _ _ _ e .1) .1 in
-    let sizes = neither (key-wrong (length (u .key))) (nonce-wrong (length (a .nonce))) (passed _ _ _ e₁ .0) in
-    let e₂ = passed _ _ _ e₁ .1 in
-    let e₃ = passed _ _ _ e₂ .1 in
-    let e₄ = passed _ _ _ e₃ .1 in
-    let e₅ = passed _ _ _ e₄ .1 in
-    let e₆ = passed _ _ _ e₅ .1 in
-    let e₇ = passed _ _ _ e₆ .1 in
-    let e₈ = passed _ _ _ e₇ .1 in
+    let p = passes _ e in
+    let lengths = neither (key-wrong (length (u .key))) (nonce-wrong (length (a .nonce))) (p .1 .1 .0) in
+    let buffers = neither _ _ (p .1 .1 .1 .0) in
+    let found = p .1 .1 .1 .1 in
     record {
-      nonce-long = eqb-true (length (a .nonce)) nonce-length (not-false _ (sizes .1));
-      staging-long = ltb-false (length (a .staging)) (half-length fram) (neither _ _ (passed _ _ _ e₂ .0) .0);
-      in-use = passed _ _ _ e₃ .0;
-      few = passed _ _ _ e₈ .0;
+      nonce-long = eqb-true (length (a .nonce)) nonce-length (not-false _ (lengths .1));
+      staging-long = ltb-false (length (a .staging)) (half-length fram) (buffers .0);
+      in-use = found .0;
+      few = found .1 .1 .1 .1 .1 .0;
     }
 
 few-restarts : (u : Setup) (s : State) → Holds u s → (c : Checkpoint) → Entry u s c

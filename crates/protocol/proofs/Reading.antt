@@ -1,42 +1,34 @@
 -- What an operation finds in memories that hold a recorded checkpoint.
-use Prim.Native.Nat.{ℕ, _+_, _-_, _*_, _≤_}
-use mathlib.Core.Path.{_≡_, refl, sym, ap, subst, _∙_}
+use Prim.Native.Nat.{ℕ, _+_, _-_}
+use mathlib.Core.Path.{_≡_, refl, subst, _∙_}
 use mathlib.Core.Bool.{Bool, true, false, _||_}
 use mathlib.Core.Option.{Option}
 use mathlib.Core.List.{List, [], _∷_, _++_, List·Memᴰ, List·Memᴰ·head, List·Memᴰ·tail}
 use native.Mathlib.Omega.{arith}
-use lib.ListN.{length, take, drop, take-append-drop}
-use lib.Seq.{take-take}
+use lib.ListN.{length, take, drop}
 use Rattle.octets.specs.Limits.{nonce-length}
-use Rattle.octets.specs.Octets.{part, same}
-use Rattle.octets.proofs.Laws.{Written, written-part, same-equal}
+use Rattle.octets.specs.Octets.{same}
+use Rattle.octets.proofs.Laws.{same-equal}
 use Rattle.ring.specs.Ring.{read-ring, half-named, target-page, target-slot, record-of, newest-record, nonce-used, Newest}
 use Rattle.ring.proofs.RingLaws.{any}
 use Rattle.ring.proofs.FoundLaws.{found, read-is, record-is, used-is, targets}
 use Rattle.ring.proofs.RecordLaws.{half-named-of, nonce-of-record}
 use Rattle.checkpoint.specs.Checkpoint.{Checkpoint, sealed}
 use Rattle.checkpoint.specs.Half.{good-head, good-tag, stored, stored-restarts}
-use Rattle.checkpoint.specs.Fram.{fram-wrong, half-length, half-at}
+use Rattle.checkpoint.specs.Fram.{fram-wrong, half-at}
 use Rattle.checkpoint.proofs.HalfLaws.{restarts-is, head-passes, tag-passes, read-back}
-use Rattle.checkpoint.proofs.FramLaws.{half-within}
+use Rattle.checkpoint.proofs.FramLaws.{half-begins}
 use Rattle.protocol.specs.Calls.{Setup}
 use Rattle.protocol.specs.Operations.{newest-half}
 use Rattle.protocol.proofs.Invariant.{sealed-fits, half-of, page-in, slot-in, Recorded}
-
--- the front of a part
-part-front : (xs ys : List ℕ) (base n : ℕ) → length ys ≤ n → base + n ≤ length xs → Written xs base (length ys) ys
-    → part xs base n ≡ ys ++ drop (length ys) (part xs base n)
-unfolding part
-part-front xs ys base n h l w =
-    sym (take-append-drop (length ys) (part xs base n)) ∙ ap (λ (f : List ℕ). f ++ drop (length ys) (part xs base n))
-    (take-take (length ys) n (drop base xs) h ∙ written-part xs ys base (omega arith) w)
 
 none-used : (nonce : List ℕ) (nonces : List (List ℕ)) → (List·Memᴰ nonce nonces → ⊥) → (recs : List (List ℕ))
     → ((r : List ℕ) → List·Memᴰ r recs → List·Memᴰ (take nonce-length r) nonces) → any (λ r. same (take nonce-length r) nonce) recs ≡ false
 none-used nonce nonces f [] k = refl
 none-used nonce nonces f (r ∷ rs) k = go (none-used nonce nonces f rs (λ q m. k q (List·Memᴰ·tail m))) (same (take nonce-length r) nonce) refl
   where
-    go : any (λ r. same (take nonce-length r) nonce) rs ≡ false → (b : Bool) → same (take nonce-length r) nonce ≡ b → (same (take nonce-length r) nonce || any (λ r. same (take nonce-length r) nonce) rs) ≡ false
+    go : any (λ r. same (take nonce-length r) nonce) rs ≡ false → (b : Bool) → same (take nonce-length r) nonce ≡ b
+        → (same (take nonce-length r) nonce || any (λ r. same (take nonce-length r) nonce) rs) ≡ false
     go ih true e = absurd (f (subst (λ (n : List ℕ). List·Memᴰ n nonces) (same-equal (take nonce-length r) nonce e) (k r (List·Memᴰ·head refl))))
     go ih false e = rw e ih
 
@@ -73,9 +65,7 @@ module _ {u : Setup} {ring fram : List ℕ} {nonces : List (List ℕ)} {entry : 
   behind = drop (length (sealed (u .key) c)) (half-at fram (half-of count))
 
   half-holds : half-at fram (half-of count) ≡ sealed (u .key) c ++ behind
-  unfolding half-at
-  half-holds = part-front fram (sealed (u .key) c) (half-of count * half-length fram) (half-length fram) (sealed-fits (u .key) (r .good))
-      (half-within fram (half-of count) right (omega arith)) (r .there)
+  half-holds = half-begins fram (sealed (u .key) c) (half-of count) right (omega arith) (sealed-fits (u .key) (r .good)) (r .there)
 
   pub newest-half-is : newest-half ring fram (u .sizes .slots) newest ≡ sealed (u .key) c ++ behind
   unfolding newest-half

@@ -12,7 +12,8 @@ use lib.Dec.{eqb, ltb}
 use borrow.Author.Tests.{lt-ltb}
 use Rattle.octets.specs.Limits.{slot-length, nonce-length}
 use Rattle.octets.specs.Octets.{blank}
-use Rattle.octets.proofs.Laws.{blank-part, Written}
+use Rattle.octets.proofs.Laws.{Written}
+use Rattle.ring.proofs.StoreLaws.{slot-blank, before-first}
 use Rattle.ring.specs.Ring.{record-put, page-at, slot-at, is-record, ring-wrong, page-before, record-of}
 use Rattle.ring.proofs.RingLaws.{Ringed, page-of, slot-of, last, joined, target-is-blank, record-next, record-first}
 use Rattle.ring.proofs.SizeLaws.{sized}
@@ -20,14 +21,14 @@ use Rattle.ring.proofs.RecordLaws.{is-record-of, length-record, nonce-of-record
 use Rattle.checkpoint.specs.Checkpoint.{Checkpoint, own-tag, sealed}
 use Rattle.checkpoint.specs.Half.{stored}
 use Rattle.checkpoint.specs.Fram.{half-length}
-use Rattle.protocol.specs.Calls.{Setup, advanced-by}
-use Rattle.protocol.specs.Journal.{Journal, Draft, Store, erase, erase-if, to-come, made, advanced}
-use Rattle.protocol.specs.Operations.{Moved, job-record, session-of, in-phase, phase-wrong, going-on, ended, recorded, erase-follows, after-record, store, advance}
-use Rattle.protocol.specs.History.{State, Handed, step}
 use Rattle.protocol.specs.Types.{Session, Phase, Record, EraseAfter, Done}
-use Rattle.protocol.proofs.Invariant.{Good, session-in, half-of, page-in, slot-in, Durable-at, Recorded, Durable, Working, last-erase, Recording, Holds, Moving}
+use Rattle.protocol.specs.Calls.{Setup}
+use Rattle.protocol.specs.Operations.{Moved, job-record, session-of, in-phase, phase-wrong, going-on, ended, recorded, erase-follows, after-record, store, advance}
+use Rattle.protocol.specs.Journal.{Journal, Draft, Store, erase, erase-if, to-come, made, advanced}
+use Rattle.protocol.specs.History.{State, Handed}
 use Rattle.protocol.proofs.Facts.{no-fact}
-use Rattle.protocol.proofs.Advances.{call, after, advance-stores, after-going, after-ended, working-on, doing-of}
+use Rattle.protocol.proofs.Invariant.{draft-of, Good, session-in, half-of, page-in, slot-in, DurableAt, Recorded, Durable, Working, last-erase, Recording, Holds, Moving}
+use Rattle.protocol.proofs.Advances.{Moves, call, after, advance-stores, after-going, after-ended, working-on, doing-of}
 
 last-snoc : (rs : List (List ℕ)) (r : List ℕ) → last (rs ++ r ∷ []) ≡ r
 last-snoc [] r = refl
@@ -59,7 +60,7 @@ abbrev pub erase-test : ℕ → ℕ → List ℕ → ℕ → Bool
 erase-test pages slots ring count =
     eqb (slot-of slots (count + 1)) 0 && not (blank (page-at ring slots (page-before pages (page-of pages slots (count + 1)))))
 
-pub record New-ring (pages slots : ℕ) (ring : List ℕ) (count : ℕ) (r : List ℕ) (P : List ℕ → Type 0) : Type 0 where
+pub record NewRing (pages slots : ℕ) (ring : List ℕ) (count : ℕ) (r : List ℕ) (P : List ℕ → Type 0) : Type 0 where
   pub recs : List (List ℕ)
   pub ringed : Ringed pages slots (record-at pages slots ring count r) (count + 1) (full slots count) recs
   pub latest : last recs ≡ r
@@ -71,7 +72,7 @@ and-test true b c e f = rw (f (sym e)) e
 and-test false b c e f = e
 
 module _ (pages slots : ℕ) (ring : List ℕ) (count : ℕ) (r : List ℕ) (P : List ℕ → Type 0) (long : length r ≡ slot-length) (is : is-record r ≡ true) (p : P r) where
-  pub next-ring : (recs : List (List ℕ)) → Ringed pages slots ring count false recs → ((q : List ℕ) → List·Memᴰ q recs → P q) → New-ring pages slots ring count r P
+  pub next-ring : (recs : List (List ℕ)) → Ringed pages slots ring count false recs → ((q : List ℕ) → List·Memᴰ q recs → P q) → NewRing pages slots ring count r P
   next-ring recs h f =
       let some-before : ltb 0 count ≡ true = lt-ltb 0 count (h .some-record) in
       let x = record-next pages slots ring count recs r h long is in
@@ -80,20 +81,20 @@ module _ (pages slots : ℕ) (ring : List ℕ) (count : ℕ) (r : List ℕ) (P :
         ringed = rw some-before x;
         latest = last-joined (eqb (count % slots) 0) recs r;
         known = known-joined P (eqb (count % slots) 0) recs r f p;
-        test = rw some-before (and-test (eqb (slot-of slots (count + 1)) 0) (eqb (count % slots) 0) (blank (page-at (record-at pages slots ring count r) slots (page-before pages (page-of pages slots (count + 1)))))
+        test = rw some-before (and-test (eqb (slot-of slots (count + 1)) 0) (eqb (count % slots) 0)
+            (blank (page-at (record-at pages slots ring count r) slots (page-before pages (page-of pages slots (count + 1)))))
             (ap (λ (n : ℕ). eqb (n % slots) 0) (add-sub-cancel count 1)) (λ e. x .pending e .1));
       }
 
 first-ring-at : (pages slots : ℕ) (ring r : List ℕ) (P : List ℕ → Type 0) → length r ≡ slot-length → is-record r ≡ true → P r
-    → ring-wrong pages slots ring ≡ false → blank ring ≡ true → New-ring pages slots ring 0 r P
-unfolding page-before
+    → ring-wrong pages slots ring ≡ false → blank ring ≡ true → NewRing pages slots ring 0 r P
 first-ring-at pages slots ring r P long is p w b =
     record {
       recs = r ∷ [];
       ringed = rw (page-0, slot-0) x;
       latest = refl;
       known = λ q m. subst P (sym (List·Memᴰ·eq-of-singleton m)) p;
-      test = rw (page-0, slot-0, last-page);
+      test = rw (page-0, slot-0, before-first pages, last-page);
     }
   where
     page-0 : page-of pages slots 1 ≡ 0
@@ -111,15 +112,15 @@ first-ring-at pages slots ring r P long is p w b =
         x .others (pages - 1) (omega arith) (λ e. omega (arith, e, page-0)) (λ y. no-fact (sym (y .1)))
 
 pub first-ring : (pages slots : ℕ) (ring : List ℕ) (count : ℕ) (r : List ℕ) (P : List ℕ → Type 0) → length r ≡ slot-length → is-record r ≡ true → P r
-    → count ≡ 0 → ring-wrong pages slots ring ≡ false → blank ring ≡ true → New-ring pages slots ring count r P
-first-ring pages slots ring count r P long is p e w b = subst (λ (n : ℕ). New-ring pages slots ring n r P) (sym e) (first-ring-at pages slots ring r P long is p w b)
+    → count ≡ 0 → ring-wrong pages slots ring ≡ false → blank ring ≡ true → NewRing pages slots ring count r P
+first-ring pages slots ring count r P long is p e w b = subst (λ (n : ℕ). NewRing pages slots ring n r P) (sym e) (first-ring-at pages slots ring r P long is p w b)
 
 -- ---- the draft's record
 
 module _ {u : Setup} {ring fram : List ℕ} {nonces : List (List ℕ)} {entry : Option Checkpoint} {count power-ups : ℕ} {c : Checkpoint}
     (right : ring-wrong (u .sizes .pages) (u .sizes .slots) ring ≡ false) (good : Good c (half-length fram)) (mine : List·Memᴰ (c .nonce) nonces) where
   new-ring : Durable u ring fram nonces entry count false power-ups
-      → New-ring (u .sizes .pages) (u .sizes .slots) ring count (record-of (c .nonce) (half-of (count + 1))) (λ (r : List ℕ). List·Memᴰ (take nonce-length r) nonces)
+      → NewRing (u .sizes .pages) (u .sizes .slots) ring count (record-of (c .nonce) (half-of (count + 1))) (λ (r : List ℕ). List·Memᴰ (take nonce-length r) nonces)
   new-ring (inl x) = first-ring (u .sizes .pages) (u .sizes .slots) ring count (record-of (c .nonce) (half-of (count + 1))) (λ (r : List ℕ). List·Memᴰ (take nonce-length r) nonces)
       (length-record (c .nonce) (half-of (count + 1)) (good .nonce-long)) (is-record-of (c .nonce) (half-of (count + 1)) (good .nonce-long) (omega arith))
       (rw (nonce-of-record (c .nonce) (half-of (count + 1)) (good .nonce-long)) mine) (x .no-record) right (x .ring-blank)
@@ -129,7 +130,8 @@ module _ {u : Setup} {ring fram : List ℕ} {nonces : List (List ℕ)} {entry : 
 
   pub record-durable : {power-ups′ : ℕ} → Durable u ring fram nonces entry count false power-ups
       → Written fram (half-of (count + 1) * half-length fram) (length (sealed (u .key) c)) (sealed (u .key) c) → power-ups′ ≡ c .restarts
-      → Recorded u (record-at (u .sizes .pages) (u .sizes .slots) ring count (record-of (c .nonce) (half-of (count + 1)))) fram nonces (some c) (count + 1) (full (u .sizes .slots) count) power-ups′ c
+      → Recorded u (record-at (u .sizes .pages) (u .sizes .slots) ring count (record-of (c .nonce) (half-of (count + 1)))) fram nonces
+      (some c) (count + 1) (full (u .sizes .slots) count) power-ups′ c
   record-durable d w r =
       let x = new-ring d in
       record { entry-is = refl; recs = x .recs; ringed = x .ringed; latest = x .latest; good = good; restarts-are = r; there = w; known = x .known }
@@ -138,15 +140,11 @@ module _ {u : Setup} {ring fram : List ℕ} {nonces : List (List ℕ)} {entry : 
       → erase-test (u .sizes .pages) (u .sizes .slots) (record-at (u .sizes .pages) (u .sizes .slots) ring count (record-of (c .nonce) (half-of (count + 1)))) count ≡ full (u .sizes .slots) count
   record-test d = new-ring d .test
 
-blank-slot : (ring : List ℕ) (slots page slot : ℕ) → blank ring ≡ true → blank (slot-at ring slots page slot) ≡ true
-unfolding slot-at
-blank-slot ring slots page slot b = blank-part ring (slot-length * (page * slots + slot)) slot-length b
-
 -- the slot of the next record is blank
 pub next-slot-blank : {u : Setup} {ring fram : List ℕ} {nonces : List (List ℕ)} {entry : Option Checkpoint} {count power-ups : ℕ} → Durable u ring fram nonces entry count false power-ups
     → blank (slot-at ring (u .sizes .slots) (page-in u (count + 1)) (slot-in u (count + 1))) ≡ true
 next-slot-blank {u} {ring} {count = count} (inl x) =
-    blank-slot ring (u .sizes .slots) (page-in u (count + 1)) (slot-in u (count + 1)) (x .ring-blank)
+    slot-blank ring (u .sizes .slots) (page-in u (count + 1)) (slot-in u (count + 1)) (x .ring-blank)
 next-slot-blank {u} {ring} {count = count} (inr (c, x)) = target-is-blank (u .sizes .pages) (u .sizes .slots) ring count (x .recs) (x .ringed)
 
 -- ---- the sessions with the one handed out at the end
@@ -189,8 +187,8 @@ module _ {u : Setup} {s : State} {h : Handed} (inv : Holds u s) (x : Recording u
   abbrev new : List ℕ
   new = record-at (u .sizes .pages) (u .sizes .slots) (s .ring) (s .journal .count) (record-of (x .before .working .c .nonce) (half-of (s .journal .count + 1)))
 
-  pub owing : Durable-at u s (s .ring) (s .fram) false
-  owing = subst (λ (b : Bool). Durable-at u s (s .ring) (s .fram) b) (x .owed) (inv .durable)
+  pub owing : DurableAt u s (s .ring) (s .fram) false
+  owing = subst (λ (b : Bool). DurableAt u s (s .ring) (s .fram) b) (x .owed) (inv .durable)
 
   pub recorded-durable : Recorded u new (s .fram) (s .nonces) (some (x .before .working .c)) (s .journal .count + 1) (full (u .sizes .slots) (s .journal .count))
       (x .before .working .c .restarts) (x .before .working .c)
@@ -237,7 +235,7 @@ module _ {u : Setup} {s : State} {h : Handed} (inv : Holds u s) (x : Recording u
     count = s .journal .count + 1;
     owed = to-come (erase-if b);
     power-ups = x .before .working .c .restarts;
-    draft = some (record { checkpoint = x .before .working .c; origin = x .before .working .origin; power-ups = x .before .working .c .restarts; stores = erase-if b });
+    draft = some (draft-of (x .before .working .c) (x .before .working .origin) (erase-if b));
   }
 
   journal-is : advanced (s .journal) (s .journal .draft) ≡ journal-with (full (u .sizes .slots) (s .journal .count))
@@ -272,7 +270,7 @@ module _ {u : Setup} {s : State} {h : Handed} (inv : Holds u s) (x : Recording u
   none-match z m c e l = absurd (x .before .unlike z m (let q : x .before .working .c ≡ c = cc in l ∙ ap (λ (y : Checkpoint). y .nonce) (sym q)))
 
   recording-go : h .job .phase ≡ Record → (b : Bool) → full (u .sizes .slots) (s .journal .count) ≡ b
-      → Moving u (step u s (advanced-by (call u h))) (advance (s .ring) (s .fram) (call u h) .progress) (x .before .working .c) (x .before .working .origin) (erase-if b)
+      → Moves u s h (x .before .working .c) (x .before .working .origin) (erase-if b)
   unfolding erase-if to-come in-phase working-on
   recording-go e true f =
       after-going u s h (λ t a. Moving u t a (x .before .working .c) (x .before .working .origin) (erase ∷ [])) phase new (s .fram) (journal-with true)
@@ -326,7 +324,7 @@ module _ {u : Setup} {s : State} {h : Handed} (inv : Holds u s) (x : Recording u
       })
     where
       d : Draft
-      d = record { checkpoint = x .before .working .c; origin = x .before .working .origin; power-ups = x .before .working .c .restarts; stores = [] }
+      d = draft-of (x .before .working .c) (x .before .working .origin) []
 
       k : Handed
       k = record { job = in-phase (h .job) Done; staging = h .staging }
@@ -335,5 +333,5 @@ module _ {u : Setup} {s : State} {h : Handed} (inv : Holds u s) (x : Recording u
       t = after s h Done new (s .fram) (session-of (h .job) ∷ s .sessions) (journal-with false)
 
   pub recording : h .job .phase ≡ Record
-      → Moving u (step u s (advanced-by (call u h))) (advance (s .ring) (s .fram) (call u h) .progress) (x .before .working .c) (x .before .working .origin) (last-erase u s)
+      → Moves u s h (x .before .working .c) (x .before .working .origin) (last-erase u s)
   recording e = recording-go e (full (u .sizes .slots) (s .journal .count)) refl

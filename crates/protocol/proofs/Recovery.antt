@@ -17,19 +17,19 @@ use Rattle.ring.proofs.RingLaws.{read-blank}
 use Rattle.ring.proofs.FoundLaws.{not-blank, not-unreadable}
 use Rattle.checkpoint.specs.Checkpoint.{Checkpoint, sealed}
 use Rattle.checkpoint.specs.Fram.{fram-wrong, half-length}
-use Rattle.protocol.specs.Calls.{PowersUp, Setup, Event, powered-up}
-use Rattle.protocol.specs.Journal.{Store, drafted, stores-of, power-up-draft}
-use Rattle.protocol.specs.Operations.{key-wrong, nonce-wrong, staging-wrong, state-wrong, Begin, begin, power-up-stop, power-up}
-use Rattle.protocol.specs.History.{State, fresh, step, run, Allowed}
 use Rattle.protocol.specs.Types.{PowerUp, Begun, Stopped}
+use Rattle.protocol.specs.Calls.{PowersUp, Setup, Event, powered-up}
+use Rattle.protocol.specs.Operations.{key-wrong, nonce-wrong, staging-wrong, state-wrong, Begin, begin, power-up-stop, power-up}
+use Rattle.protocol.specs.Journal.{Store, drafted, stores-of, power-up-draft}
+use Rattle.protocol.specs.History.{State, fresh, step, run, Allowed}
 use Rattle.protocol.specs.Recovery.{Exactly, Fits, Last, answers, Resumes, Outcome, Recovery}
-use Rattle.protocol.proofs.Invariant.{Durable-at, Untouched, Holds, Ended}
-use Rattle.protocol.proofs.Looking.{seen}
-use Rattle.protocol.proofs.Starts.{started}
+use Rattle.protocol.proofs.Invariant.{draft-of, DurableAt, Untouched, Holds, Ended}
 use Rattle.protocol.proofs.Reading.{reads, new-nonce, head-found, tag-found, restarts-found}
+use Rattle.protocol.proofs.Starts.{started}
 use Rattle.protocol.proofs.PowerUps.{power-call, Entry, resuming-job, power-up-is, resuming-holds, step-is}
 use Rattle.protocol.proofs.Lists.{hold-run, exactly, exactly-unfit, hold-fresh}
 use Rattle.protocol.proofs.LastRun.{ends, runs-on, answering, stores-some, answers-end}
+use Rattle.protocol.proofs.Looking.{seen}
 
 -- ---- what the last power-up answers
 
@@ -111,7 +111,9 @@ module _ (u : Setup) (s : State) (inv : Holds u s) (a : PowersUp) (key-long : le
       length-answered = ap (λ (b : Begin). b .secret-length) power-up-begins;
       restored = ap (λ (b : Begin). b .state) power-up-begins;
       runs = runs-on u new stores t (record { job = resuming-job u s new; staging = put (a .staging) 0 (sealed (u .key) new) }) holds (ap (λ (y : State). y .handed) is) draft;
-      ends = λ events k n. let x = ends u new events t holds stores draft (λ q. no-end q) (answers u events t) (answering u events t k) n in (answers-end stores (answers u events t) (y .0) (y .1) (y .2) (x .0) n, x .1);
+      ends = λ events k n.
+          let x = ends u new events t holds stores draft (λ q. no-end q) (answers u events t) (answering u events t k) n in
+          (answers-end stores (answers u events t) (y .0) (y .1) (y .2) (x .0) n, x .1);
     }
       where
         new : Checkpoint
@@ -129,7 +131,7 @@ module _ (u : Setup) (s : State) (inv : Holds u s) (a : PowersUp) (key-long : le
         holds : Holds u t
         holds = subst (λ (y : State). Holds u y) (sym is) (resuming-holds u s inv a c r (l .nonce-long) (l .staging) (l .nonce-new) few)
 
-        draft : t .journal .draft ≡ some (record { checkpoint = new; origin = PowerUp; power-ups = new .restarts; stores = stores })
+        draft : t .journal .draft ≡ some (draft-of new PowerUp stores)
         draft = ap (λ (y : State). y .journal .draft) is ∙ (λ i. some (record { checkpoint = new; origin = PowerUp; power-ups = r .restarts-are i + 1; stores = stores }))
 
         y : (x : Store) × (rest : List Store) × (stores ≡ x ∷ rest)
@@ -155,7 +157,7 @@ module _ (u : Setup) (s : State) (inv : Holds u s) (a : PowersUp) (key-long : le
       cases c r true e = outcome-worn c r (eqb-true (c .restarts) restart-limit e)
       cases c r false e = outcome-resumes c r (eqb-false (c .restarts) restart-limit e)
 
-      go : Durable-at u s (s .ring) (s .fram) (s .journal .owed) → Outcome u s (power-call u a)
+      go : DurableAt u s (s .ring) (s .fram) (s .journal .owed) → Outcome u s (power-call u a)
       go (inl x) = outcome-blank x
       go (inr (c, r)) = cases c r (eqb (c .restarts) restart-limit) refl
 
@@ -168,11 +170,16 @@ exactly-fresh u ring fram b events k false true p q = exactly-unfit u events (fr
 
 pub recovery : Recovery
 unfolding Recovery
-recovery u ring fram b events k = (exactly-fresh u ring fram b events k (ring-wrong (u .sizes .pages) (u .sizes .slots) ring) (fram-wrong fram) refl refl, λ f. (seen u (run u (fresh ring fram) events) (hold-run u events (fresh ring fram) (hold-fresh u ring fram (f .ring-right) (f .fram-right) b) k) (f .key-right), after-list f))
+recovery u ring fram b events k = (
+  exactly-fresh u ring fram b events k (ring-wrong (u .sizes .pages) (u .sizes .slots) ring) (fram-wrong fram) refl refl,
+  λ f. (seen u (run u (fresh ring fram) events) (held f) (f .key-right), after-list f),
+)
   where
+    held : Fits u ring fram → Holds u (run u (fresh ring fram) events)
+    held f = hold-run u events (fresh ring fram) (hold-fresh u ring fram (f .ring-right) (f .fram-right) b) k
+
     after-list : Fits u ring fram → (a : PowersUp) → Last u (run u (fresh ring fram) events) a → Outcome u (run u (fresh ring fram) events) a
     after-list f a l =
         let s = run u (fresh ring fram) events in
-        let inv = hold-run u events (fresh ring fram) (hold-fresh u ring fram (f .ring-right) (f .fram-right) b) k in
         let path : power-call u a ≡ a = λ i. record { sizes = sym (l .sizes) i; key = sym (l .key) i; nonce = a .nonce; staging = a .staging; state = a .state } in
-        subst (λ (y : PowersUp). Outcome u s y) path (outcome u s inv a (f .key-right) (subst (λ (y : PowersUp). Last u s y) (sym path) l))
+        subst (λ (y : PowersUp). Outcome u s y) path (outcome u s (held f) a (f .key-right) (subst (λ (y : PowersUp). Last u s y) (sym path) l))

@@ -7,11 +7,11 @@ use mathlib.Core.List.{List}
 use lib.Dec.{T}
 use Rattle.ring.specs.Ring.{page-before, page-erased}
 use Rattle.checkpoint.specs.Checkpoint.{Checkpoint}
-use Rattle.protocol.specs.Calls.{Advances, Setup, Event, first-saved, saved, powered-up, advanced-by, PowerLoss, lost-in-store}
-use Rattle.protocol.specs.Journal.{entered, Journal}
-use Rattle.protocol.specs.Operations.{Moved, advance-stop, going-on, finished, ended, recorded, erase-follows, after-record, store, advance-by, advance, begin, first-save, save, power-up}
-use Rattle.protocol.specs.History.{State, begun, moved, left-by, step, is-stop, is-stopped, refused}
 use Rattle.protocol.specs.Types.{Origin, Save, PowerUp, Job, Phase, EraseFirst, Words, Record, EraseAfter, Done}
+use Rattle.protocol.specs.Calls.{Advances, Setup, Event, first-saved, saved, powered-up, advanced-by, PowerLoss, lost-in-store}
+use Rattle.protocol.specs.Operations.{Moved, advance-stop, going-on, finished, ended, recorded, erase-follows, after-record, store, advance-by, advance, begin, first-save, save, power-up}
+use Rattle.protocol.specs.Journal.{entered, Journal}
+use Rattle.protocol.specs.History.{State, begun, moved, left-by, step, is-stop, is-stopped, refused}
 use Rattle.protocol.proofs.Facts.{no-fact}
 
 start-refused : (s : State) (o : Option ℕ) (key : List ℕ) (c : Checkpoint) (job : Job) (staging state secret nonce : List ℕ) (j : Journal)

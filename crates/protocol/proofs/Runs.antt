@@ -11,17 +11,17 @@ use lib.Dec.{eqb, ltb}
 use Rattle.checkpoint.specs.Checkpoint.{Checkpoint, sealed}
 use Rattle.protocol.specs.Types.{Origin, Progress, GoingOn, Saved, Restored, Refused}
 use Rattle.protocol.specs.Calls.{Advances, Setup, Event, advanced-by}
-use Rattle.protocol.specs.Journal.{Journal, Draft, Store, erase, word, record-slot, erase-if, stores-of, made, advanced, entered}
 use Rattle.protocol.specs.Operations.{Moved, advance}
+use Rattle.protocol.specs.Journal.{Journal, Draft, Store, erase, word, record-slot, erase-if, stores-of, made, advanced, entered}
 use Rattle.protocol.specs.History.{State, Handed, moved, left-by, step, run, refused, is-stopped, Keeps, Allowed}
 use Rattle.protocol.specs.Recovery.{advances-of}
 use Rattle.protocol.specs.Histories.{stores-left, to-its-end}
-use Rattle.protocol.proofs.Invariant.{Durable-at, Holds, Ended, Moving}
-use Rattle.protocol.proofs.Advances.{call}
-use Rattle.protocol.proofs.Advancing.{advancing}
+use Rattle.protocol.proofs.Invariant.{draft-of, DurableAt, Holds, Ended}
+use Rattle.protocol.proofs.Advances.{Moves, call}
+use Rattle.protocol.proofs.Advancing.{advancing, going}
 use Rattle.protocol.proofs.PowerUps.{Entry}
+use Rattle.protocol.proofs.LastRun.{advances-on, stores-some}
 use Rattle.protocol.proofs.Blind.{blind}
-use Rattle.protocol.proofs.LastRun.{advances-on, going, stores-some}
 
 -- ---- what one advance leaves
 
@@ -65,27 +65,24 @@ pub record Finished (u : Setup) (t : State) (c : Checkpoint) (events : List Even
   pub nonces : run u t events .nonces ≡ t .nonces
 
 module _ (u : Setup) (c : Checkpoint) (origin : Origin) where
-  abbrev drafts : List Store → Draft
-  drafts stores = record { checkpoint = c; origin = origin; power-ups = c .restarts; stores = stores }
-
-  more-made : (x : Store) (rest : List Store) (t : State) (h : Handed) → t .handed ≡ some h → t .journal .draft ≡ some (drafts (x ∷ rest))
-      → Moving u (step u t (advanced-by (call u h))) (advance (t .ring) (t .fram) (call u h) .progress) c origin rest
+  more-made : (x : Store) (rest : List Store) (t : State) (h : Handed) → t .handed ≡ some h → t .journal .draft ≡ some (draft-of c origin (x ∷ rest))
+      → Moves u t h c origin rest
       → Finished u (step u t (advanced-by (call u h))) c (advances-of u (length rest) (step u t (advanced-by (call u h)))) (records-in rest)
       → Finished u t c (advanced-by (call u h) ∷ advances-of u (length rest) (step u t (advanced-by (call u h)))) (records-in (x ∷ rest))
   unfolding Allowed run Keeps refused advanced
   more-made x rest t h e d m more =
       let r : is-stopped (advance (t .ring) (t .fram) (call u h) .progress) ≡ false = ap is-stopped (m .answered) ∙ going origin rest in
-      let j : step u t (advanced-by (call u h)) .journal ≡ made (t .journal) (drafts (x ∷ rest)) (x ∷ rest) =
+      let j : step u t (advanced-by (call u h)) .journal ≡ made (t .journal) (draft-of c origin (x ∷ rest)) (x ∷ rest) =
       advance-journal u t (call u h) r ∙ ap (λ (o : Option Draft). advanced (t .journal) o) d in
       record {
         allowed = (inr (refl, e), more .allowed);
         holds = more .holds;
         ended = more .ended;
-        count = more .count ∙ ap (λ (k : Journal). k .count + records-in rest) j ∙ made-count (t .journal) (drafts (x ∷ rest)) x rest;
+        count = more .count ∙ ap (λ (k : Journal). k .count + records-in rest) j ∙ made-count (t .journal) (draft-of c origin (x ∷ rest)) x rest;
         nonces = more .nonces ∙ advance-nonces u t (call u h);
       }
 
-  pub finish : (stores : List Store) (t : State) (h : Handed) → Holds u t → t .handed ≡ some h → t .journal .draft ≡ some (drafts stores)
+  pub finish : (stores : List Store) (t : State) (h : Handed) → Holds u t → t .handed ≡ some h → t .journal .draft ≡ some (draft-of c origin stores)
       → (stores ≡ [] → Ended u t c) → Finished u t c (advances-of u (length stores) t) (records-in stores)
   unfolding Allowed run advances-of
   finish [] t h inv e d f = record { allowed = tt; holds = inv; ended = f refl; count = omega arith; nonces = refl }
@@ -122,7 +119,7 @@ pub record Whole (u : Setup) (s : State) (c : Checkpoint) (nonce : List ℕ) (ev
 pub whole : (u : Setup) (s : State) (e : Event) (c : Checkpoint) (origin : Origin) (nonce : List ℕ) (h : Handed) → Keeps u s e
     → Holds u (step u s e) → step u s e .handed ≡ some h
     → step u s e .journal .draft
-    ≡ some (record { checkpoint = c; origin = origin; power-ups = c .restarts; stores = stores-of (u .key) (u .sizes .slots) (s .journal) c })
+    ≡ some (draft-of c origin (stores-of (u .key) (u .sizes .slots) (s .journal) c))
     → step u s e .journal .count ≡ s .journal .count → step u s e .nonces ≡ nonce ∷ s .nonces → Whole u s c nonce (to-its-end u s e)
 unfolding to-its-end Allowed run stores-left
 whole u s e c origin nonce h k inv q d n m =
@@ -165,6 +162,6 @@ pub record Rests (u : Setup) (s : State) (c : Checkpoint) : Type 0 where
 pub rests : (u : Setup) (s : State) (c : Checkpoint) → Holds u s → Ended u s c → Rests u s c
 rests u s c inv x = go (inv .durable)
   where
-    go : Durable-at u s (s .ring) (s .fram) (s .journal .owed) → Rests u s c
+    go : DurableAt u s (s .ring) (s .fram) (s .journal .owed) → Rests u s c
     go (inl y) = absurd (let p = y .no-entry in let e = x .entry in let z : _≡_ {A = ℕ} 0 1 = cc in omega arith)
     go (inr (d, r)) = let p = r .entry-is in let e = x .entry in let q : d ≡ c = cc in record { holds = inv; entry = subst (λ (y : Checkpoint). Entry u s y) q r; ended = x }

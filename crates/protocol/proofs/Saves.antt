@@ -1,60 +1,55 @@
 -- The invariant after a save.
 use Prim.Native.Nat.{ℕ, _-_}
 use mathlib.Core.Path.{_≡_, refl, sym, ap, subst, _∙_}
-use mathlib.Core.Bool.{false, _&&_}
+use mathlib.Core.Bool.{false}
 use mathlib.Core.Logic.{inl, inr}
 use mathlib.Core.Option.{Option, none, some}
 use mathlib.Core.List.{List, _∷_, List·Memᴰ}
 use native.Mathlib.Omega.{arith}
 use lib.ListN.{length, take}
-use lib.Dec.{eqb}
 use borrow.Author.Tests.{eqb-true, not-false}
 use Rattle.octets.specs.Limits.{nonce-length}
-use Rattle.octets.specs.Octets.{put, same}
-use Rattle.octets.proofs.Laws.{and-true, same-equal}
-use Rattle.stops.proofs.Laws.{neither}
-use Rattle.ring.specs.Ring.{read-ring, half-named, target-page, target-slot, newest-page, newest-slot, newest-record, not-newest, is-blank, is-pending, Newest}
+use Rattle.octets.specs.Octets.{put}
+use Rattle.stops.proofs.Laws.{neither, passes}
+use Rattle.ring.proofs.StoreLaws.{newest-latest}
+use Rattle.ring.specs.Ring.{read-ring, half-named, target-page, target-slot, newest-record, is-blank, is-pending, Newest}
 use Rattle.ring.proofs.RingLaws.{read-blank}
 use Rattle.ring.proofs.FoundLaws.{found, pending-is}
 use Rattle.checkpoint.specs.Checkpoint.{Checkpoint, own-tag, sealed}
 use Rattle.checkpoint.specs.Fram.{half-length}
 use Rattle.checkpoint.proofs.SealedLaws.{length-own-tag}
+use Rattle.protocol.specs.Types.{Save, Job, Words}
 use Rattle.protocol.specs.Calls.{Saves, Setup, saved}
-use Rattle.protocol.specs.Journal.{entered, saved-entry, Journal, drafted, save-draft}
 use Rattle.protocol.specs.Operations.{key-wrong, nonce-wrong, job-of, save-stop, save-checkpoint, save, stale}
+use Rattle.protocol.specs.Journal.{entered, saved-entry, Journal, drafted, save-draft}
 use Rattle.protocol.specs.History.{State, step, Keeps, left-by, refused}
-use Rattle.protocol.specs.Types.{Save, Session, Job, Words}
-use Rattle.protocol.proofs.Invariant.{Good, Durable-at, Recorded, Holds}
-use Rattle.protocol.proofs.Facts.{no-fact, passed}
-use Rattle.protocol.proofs.Starts.{started, start-holds, begun-stopped, begun-none, Parts, parts-pass, save-arguments}
+use Rattle.protocol.proofs.Facts.{no-fact}
+use Rattle.protocol.proofs.Invariant.{Good, DurableAt, Recorded, Holds}
 use Rattle.protocol.proofs.Reading.{reads, nonce-found, target-page-found, target-slot-found, other-half}
+use Rattle.protocol.proofs.Starts.{started, start-holds, begun-stopped, begun-none, Parts, parts-pass, save-arguments, same-arguments}
 
 abbrev pub save-call : Setup → Saves → Saves
 save-call u a = record { arguments = save-arguments u (a .arguments); session = a .session }
 
-record Save-passes (u : Setup) (ring fram : List ℕ) (a : Saves) : Type 0 where
+record SavePasses (u : Setup) (ring fram : List ℕ) (a : Saves) : Type 0 where
   nonce-long : length (a .arguments .nonce) ≡ nonce-length
   parts : Parts (a .arguments .open-part) (a .arguments .secret) (half-length fram) (length (a .arguments .staging))
   in-use : is-blank (read-ring ring (u .sizes .pages) (u .sizes .slots)) ≡ false
   fresh-session : stale ring (u .sizes .slots) (read-ring ring (u .sizes .pages) (u .sizes .slots)) (a .session) ≡ false
   none-pending : is-pending (read-ring ring (u .sizes .pages) (u .sizes .slots)) ≡ false
 
-save-passes : (u : Setup) (ring fram : List ℕ) (a : Saves) → save-stop ring fram (save-call u a) ≡ none → Save-passes u ring fram a
+save-passes : (u : Setup) (ring fram : List ℕ) (a : Saves) → save-stop ring fram (save-call u a) ≡ none → SavePasses u ring fram a
 unfolding save-stop
 save-passes u ring fram a e =
-    let e₁ = passed _ _ _ (passed _ _ _ e .1) .1 in
-    let sizes = neither (key-wrong (length (u .key))) (nonce-wrong (length (a .arguments .nonce))) (passed _ _ _ e₁ .0) in
-    let e₂ = passed _ _ _ e₁ .1 in
-    let e₃ = passed _ _ _ e₂ .1 in
-    let e₄ = passed _ _ _ e₃ .1 in
-    let e₅ = passed _ _ _ e₄ .1 in
-    let e₆ = passed _ _ _ e₅ .1 in
+    let p = passes _ e in
+    let lengths = neither (key-wrong (length (u .key))) (nonce-wrong (length (a .arguments .nonce))) (p .1 .1 .0) in
+    let found = p .1 .1 .1 .1 in
     record {
-      nonce-long = eqb-true (length (a .arguments .nonce)) nonce-length (not-false _ (sizes .1));
-      parts = parts-pass (a .arguments .open-part) (a .arguments .secret) fram (a .arguments .staging) (passed _ _ _ e₂ .0);
-      in-use = passed _ _ _ e₃ .0;
-      fresh-session = passed _ _ _ e₅ .0;
-      none-pending = passed _ _ _ e₆ .0;
+      nonce-long = eqb-true (length (a .arguments .nonce)) nonce-length (not-false _ (lengths .1));
+      parts = parts-pass (a .arguments .open-part) (a .arguments .secret) fram (a .arguments .staging) (p .1 .1 .1 .0);
+      in-use = found .0;
+      fresh-session = found .1 .1 .0;
+      none-pending = found .1 .1 .1 .0;
     }
 
 -- a ring in use has a checkpoint recorded
@@ -62,16 +57,10 @@ pub in-use-recorded : (u : Setup) (s : State) → Holds u s → is-blank (read-r
     → (c : Checkpoint) × Recorded u (s .ring) (s .fram) (s .nonces) (s .journal .entry) (s .journal .count) (s .journal .owed) (s .journal .power-ups) c
 in-use-recorded u s inv b = go (inv .durable)
   where
-    go : Durable-at u s (s .ring) (s .fram) (s .journal .owed)
+    go : DurableAt u s (s .ring) (s .fram) (s .journal .owed)
         → (c : Checkpoint) × Recorded u (s .ring) (s .fram) (s .nonces) (s .journal .entry) (s .journal .count) (s .journal .owed) (s .journal .power-ups) c
     go (inl x) = no-fact (rw (read-blank (u .sizes .pages) (u .sizes .slots) (s .ring) (inv .ring-right) (x .ring-blank)) at b)
     go (inr r) = r
-
-session-latest : (ring : List ℕ) (slots : ℕ) (n : Newest) (z : Session) → stale ring slots n z ≡ false → z .latest ≡ newest-record ring slots n
-unfolding stale not-newest
-session-latest ring slots n z e =
-    same-equal (z .latest) (newest-record ring slots n)
-    (and-true (eqb (z .page) (newest-page n) && eqb (z .slot) (newest-slot n)) (same (z .latest) (newest-record ring slots n)) (not-false _ e) .1)
 
 saved-draft : (key : List ℕ) (a : Saves) (entry : Option Checkpoint) (j : Journal) (slots : ℕ) (c : Checkpoint) → entry ≡ some c → a .session .tag ≡ own-tag key c
     → saved-entry key a entry j slots ≡ drafted key slots Save (save-checkpoint a (a .session .tag)) 0 j
@@ -89,7 +78,7 @@ module _ (u : Setup) (s : State) (inv : Holds u s) (a : Saves) (new : List·Mem�
       (target-page (u .sizes .pages) (u .sizes .slots) n) (target-slot (u .sizes .slots) n)
 
   module _ (e : save-stop (s .ring) (s .fram) (save-call u a) ≡ none) where
-    p : Save-passes u (s .ring) (s .fram) a
+    p : SavePasses u (s .ring) (s .fram) a
     p = save-passes u (s .ring) (s .fram) a e
 
     x : (c : Checkpoint) × Recorded u (s .ring) (s .fram) (s .nonces) (s .journal .entry) (s .journal .count) (s .journal .owed) (s .journal .power-ups) c
@@ -105,9 +94,10 @@ module _ (u : Setup) (s : State) (inv : Holds u s) (a : Saves) (new : List·Mem�
     none-owed = sym (pending-is (s .journal .owed) (u .sizes .pages) (u .sizes .slots) (s .journal .count)) ∙ ap (λ (m : Newest). is-pending m) (sym reads-as) ∙ p .none-pending
 
     latest-is : take nonce-length (a .session .latest) ≡ x .0 .nonce
+    unfolding stale
     latest-is =
         ap (λ (l : List ℕ). take nonce-length l)
-        (session-latest (s .ring) (u .sizes .slots) n (a .session) (p .fresh-session) ∙ ap (λ (m : Newest). newest-record (s .ring) (u .sizes .slots) m) reads-as)
+        (newest-latest (s .ring) (u .sizes .slots) n (a .session .page) (a .session .slot) (a .session .latest) (p .fresh-session) ∙ ap (λ (m : Newest). newest-record (s .ring) (u .sizes .slots) m) reads-as)
         ∙ nonce-found (inv .fram-right) r
 
     tag-is : a .session .tag ≡ own-tag (u .key) (x .0)
@@ -160,5 +150,5 @@ module _ (u : Setup) (s : State) (inv : Holds u s) (a : Saves) (new : List·Mem�
 pub hold-saved : (u : Setup) (s : State) (a : Saves) → Holds u s → Keeps u s (saved a) → Holds u (step u s (saved a))
 unfolding Keeps
 hold-saved u s a inv (p, q, f, m) =
-    let path : save-call u a ≡ a = λ i. record { arguments = record { sizes = sym p i; key = sym q i; nonce = a .arguments .nonce; open-part = a .arguments .open-part; secret = a .arguments .secret; staging = a .arguments .staging }; session = a .session } in
+    let path : save-call u a ≡ a = λ i. record { arguments = same-arguments u (a .arguments) p q i; session = a .session } in
     subst (λ (b : Saves). Holds u (step u s (saved b))) path (save-go u s inv a f m (save-stop (s .ring) (s .fram) (save-call u a)) refl)

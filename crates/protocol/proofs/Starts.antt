@@ -8,19 +8,20 @@ use mathlib.Core.List.{List, _∷_, _++_, List·Memᴰ, List·Memᴰ·head, List
 use native.Mathlib.Omega.{arith}
 use lib.ListN.{length, replicate}
 use lib.Dec.{eqb, ltb}
-use borrow.Author.Tests.{eqb-true, ltb-false, not-false}
+use borrow.Author.Tests.{ltb-false}
 use Rattle.octets.specs.Octets.{put}
 use Rattle.octets.proofs.Laws.{length-put, put-within}
 use Rattle.octets.specs.Limits.{part-limit}
 use Rattle.stops.proofs.Laws.{neither}
-use Rattle.checkpoint.specs.Checkpoint.{Checkpoint, sealed, sealed-length, part-wrong}
+use Rattle.checkpoint.proofs.SealedLaws.{part-sizes}
+use Rattle.checkpoint.specs.Checkpoint.{Checkpoint, sealed, sealed-length}
 use Rattle.checkpoint.specs.Half.{stored}
 use Rattle.checkpoint.specs.Fram.{half-length}
-use Rattle.protocol.specs.Calls.{Setup, SaveArguments}
-use Rattle.protocol.specs.Journal.{Journal, Store, erase, word, record-slot, erase-if, drafted, stores-of}
-use Rattle.protocol.specs.Operations.{job-of, begin, parts-wrong, staging-wrong}
-use Rattle.protocol.specs.History.{State, Handed, begun, is-stop}
 use Rattle.protocol.specs.Types.{Origin, Job, Phase, EraseFirst, Words}
+use Rattle.protocol.specs.Calls.{Setup, SaveArguments}
+use Rattle.protocol.specs.Operations.{Begin, job-of, begin, parts-wrong, staging-wrong}
+use Rattle.protocol.specs.Journal.{Journal, Store, erase, word, record-slot, erase-if, drafted, stores-of}
+use Rattle.protocol.specs.History.{State, Handed, begun, is-stop}
 use Rattle.protocol.proofs.Invariant.{Good, length-good, sealed-fits, half-of, page-in, slot-in, owed-page, Durable, Before, last-erase, Doing, Holds}
 use Rattle.protocol.proofs.Advances.{doing-of}
 
@@ -125,9 +126,21 @@ module _ (u : Setup) (s : State) (inv : Holds u s) (c : Checkpoint) (origin : Or
   start-doing : Begins u s phase → Doing u t h phase
   unfolding drafted job-of before
   start-doing (inl (o, p)) = subst (λ (q : Phase). Doing u t h q) (sym p)
-      (record { left = left; left-is = omega (arith, left-is); before = before (word ∷ (replicate left word ++ record-slot ∷ last-erase u s)) (plain (u .key) (u .sizes .slots) (s .journal) c left o words-are); owed = o; stored = λ k l. absurd (omega arith) })
+      (record {
+        left = left;
+        left-is = omega (arith, left-is);
+        before = before (word ∷ (replicate left word ++ record-slot ∷ last-erase u s)) (plain (u .key) (u .sizes .slots) (s .journal) c left o words-are);
+        owed = o;
+        stored = λ k l. absurd (omega arith);
+      })
   start-doing (inr (o, p)) = subst (λ (q : Phase). Doing u t h q) (sym p)
-      (record { left = left; left-is = left-is; before = before (erase ∷ word ∷ (replicate left word ++ record-slot ∷ last-erase u s)) (owing (u .key) (u .sizes .slots) (s .journal) c left o words-are); owed = o; page-is = refl })
+      (record {
+        left = left;
+        left-is = left-is;
+        before = before (erase ∷ word ∷ (replicate left word ++ record-slot ∷ last-erase u s)) (owing (u .key) (u .sizes .slots) (s .journal) c left o words-are);
+        owed = o;
+        page-is = refl;
+      })
 
   pub start-holds : Begins u s phase → Holds u (started u s c origin power-ups (job-of (u .key) c phase origin half page slot) staging)
   unfolding drafted job-of
@@ -143,11 +156,14 @@ module _ (u : Setup) (s : State) (inv : Holds u s) (c : Checkpoint) (origin : Or
 -- ---- a start's answer, by its stop
 
 module _ (s : State) (o : Option ℕ) (key : List ℕ) (c : Checkpoint) (job : Job) (staging state secret nonce : List ℕ) (j : Journal) where
-  pub begun-stopped : (x : ℕ) → o ≡ some x → begun s (begin o key c job staging state secret .answer) (begin o key c job staging state secret) nonce (cond (is-stop (begin o key c job staging state secret .answer)) (s .journal) j) ≡ s
+  abbrev answered : Begin
+  answered = begin o key c job staging state secret
+
+  pub begun-stopped : (x : ℕ) → o ≡ some x → begun s (answered .answer) answered nonce (cond (is-stop (answered .answer)) (s .journal) j) ≡ s
   unfolding begin begun is-stop
   begun-stopped x e = rw e
 
-  pub begun-none : o ≡ none → begun s (begin o key c job staging state secret .answer) (begin o key c job staging state secret) nonce (cond (is-stop (begin o key c job staging state secret .answer)) (s .journal) j) ≡ record {
+  pub begun-none : o ≡ none → begun s (answered .answer) answered nonce (cond (is-stop (answered .answer)) (s .journal) j) ≡ record {
     ring = s .ring;
     fram = s .fram;
     handed = some (record { job = job; staging = put staging 0 (sealed key c) });
@@ -159,12 +175,6 @@ module _ (s : State) (o : Option ℕ) (key : List ℕ) (c : Checkpoint) (job : J
   begun-none e = rw e
 
 -- ---- parts that pass
-
-pub part-passes : (p : List ℕ) → part-wrong p ≡ false → (length p % 4 ≡ 0) × (length p ≤ part-limit)
-unfolding part-wrong
-part-passes p e =
-    let x = neither _ _ e in
-    (eqb-true (length p % 4) 0 (not-false _ (x .0)), ltb-false part-limit (length p) (x .1))
 
 pub record Parts (open-part secret : List ℕ) (half staging : ℕ) : Type 0 where
   pub open-passes : (length open-part % 4 ≡ 0) × (length open-part ≤ part-limit)
@@ -180,8 +190,8 @@ parts-pass open-part secret fram staging e =
     let b = neither _ _ (a .0) in
     let c = neither _ _ (b .0) in
     record {
-      open-passes = part-passes open-part (c .0);
-      secret-passes = part-passes secret (c .1);
+      open-passes = part-sizes open-part (c .0);
+      secret-passes = part-sizes secret (c .1);
       fits = ltb-false (half-length fram) (sealed-length (length open-part) (length secret)) (b .1);
       staging-long = ltb-false (length staging) (half-length fram) (a .1);
     }
@@ -189,3 +199,7 @@ parts-pass open-part secret fram staging e =
 -- the same arguments with the unit's sizes and key
 abbrev pub save-arguments : Setup → SaveArguments → SaveArguments
 save-arguments u a = record { sizes = u .sizes; key = u .key; nonce = a .nonce; open-part = a .open-part; secret = a .secret; staging = a .staging }
+
+-- they are the same where document 01's rules are kept
+pub same-arguments : (u : Setup) (a : SaveArguments) → a .sizes ≡ u .sizes → a .key ≡ u .key → save-arguments u a ≡ a
+same-arguments u a p q = λ i. record { sizes = sym p i; key = sym q i; nonce = a .nonce; open-part = a .open-part; secret = a .secret; staging = a .staging }

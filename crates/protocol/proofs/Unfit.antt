@@ -15,7 +15,7 @@ use Rattle.protocol.specs.Types.{Job}
 use Rattle.protocol.specs.Calls.{Sizes, Setup, Event, first-saved, saved, powered-up, advanced-by, PowerLoss, lost-in-store}
 use Rattle.protocol.specs.Operations.{begin, first-save-stop, first-save, save-stop, save, power-up-stop, power-up}
 use Rattle.protocol.specs.History.{State, Handed, left-by, step, is-stop, refused, Keeps}
-use Rattle.protocol.specs.Recovery.{Told}
+use Rattle.protocol.specs.Recovery.{Follows}
 use Rattle.protocol.proofs.Facts.{no-fact}
 use Rattle.protocol.proofs.Refused.{step-refused}
 
@@ -59,12 +59,11 @@ module _ (u : Setup) (s : State) (x : Unfit u s) where
   unfit-step e (inl t) = stays e t
   unfit-step e (inr k) = unfit-keeps e k
 
-  pub unfit-told : (e : Event) → T (refused s e) ⊎ Keeps u s e → Told u s e
-  unfolding Told Keeps
-  unfit-told (first-saved a) k = tt
-  unfit-told (saved a) k = tt
-  unfit-told (powered-up a) k = tt
-  unfit-told (advanced-by a) (inl t) = inl t
-  unfit-told (advanced-by a) (inr (p, e)) = not-handed (s .handed) _ (x .none-handed) e
-  unfit-told PowerLoss k = tt
-  unfit-told (lost-in-store left) k = tt
+  pub unfit-told : (e : Event) → Follows u s e
+  unfolding Follows Keeps
+  unfit-told (first-saved a) = tt
+  unfit-told (saved a) = tt
+  unfit-told (powered-up a) = tt
+  unfit-told (advanced-by a) = λ k. not-handed (s .handed) _ (x .none-handed) (k .1)
+  unfit-told PowerLoss = tt
+  unfit-told (lost-in-store left) = tt

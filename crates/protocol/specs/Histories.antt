@@ -1,12 +1,12 @@
 -- The theorem's premises can be met: every unit has lists that record as many checkpoints as one likes, and up to eight power-ups in a row.
-use Prim.Native.Nat.{ℕ, zero, suc, _+_, _/_, _%_, _^_, _≤_, _<_}
+use Prim.Native.Nat.{ℕ, zero, suc, _+_, _*_, _/_, _%_, _^_, _≤_, _<_}
 use mathlib.Core.Path.{_≡_}
 use mathlib.Core.Bool.{true}
 use mathlib.Core.Option.{Option, none, some}
 use mathlib.Core.List.{List, [], _∷_, _++_}
 use lib.ListN.{length, replicate}
-use Rattle.octets.specs.Limits.{fram-limit, part-limit, restart-limit, nonce-length, tag-length}
-use Rattle.octets.specs.Octets.{blank, bytes}
+use Rattle.octets.specs.Limits.{pages-least, slots-least, slot-length, fram-least, fram-limit, key-length, part-limit, restart-limit, nonce-length, tag-length}
+use Rattle.octets.specs.Octets.{blank, erased, bytes}
 use Rattle.ring.specs.Ring.{At, read-ring}
 use Rattle.protocol.specs.Types.{Session}
 use Rattle.protocol.specs.Calls.{SaveArguments, FirstSave, Saves, PowersUp, Setup, Event, first-saved, saved, powered-up}
@@ -77,7 +77,21 @@ pub record Reached (u : Setup) (s : State) (events : List Event) (n k : ℕ) : T
   pub power-ups : run u s events .journal .power-ups ≡ k
   pub newest : read-ring (run u s events .ring) (u .sizes .pages) (u .sizes .slots) ≡ At ((n + k) / u .sizes .slots % u .sizes .pages) ((n + k) % u .sizes .slots)
 
+-- for every unit; the bound is that of a 12-byte number, since no nonce repeats
 unfoldable pub Reachable : Type 0
 Reachable =
     (u : Setup) (ring fram : List ℕ) → blank ring ≡ true → Fits u ring fram
     → (n k : ℕ) → k ≤ restart-limit → n + k + 1 < 2 ^ 96 → Reached u (fresh ring fram) (history u (fresh ring fram) n k) n k
+
+-- ---- two lists of the smallest unit
+
+unfoldable pub smallest : Setup
+smallest = record { sizes = record { pages = pages-least; slots = slots-least }; key = replicate key-length 0 }
+
+-- a blank ring of 6 slots and a FRAM of 88 bytes
+unfoldable pub bench-state : State
+bench-state = fresh (erased (slot-length * 6)) (replicate fram-least 0)
+
+-- eight power-ups in a row after the first save; and six saves after it, so that the seventh record is the first of the second round
+unfoldable pub Examples : Type 0
+Examples = Reached smallest bench-state (history smallest bench-state 0 8) 0 8 × Reached smallest bench-state (history smallest bench-state 6 0) 6 0

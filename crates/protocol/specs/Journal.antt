@@ -1,20 +1,23 @@
--- The reference that the theorem compares with (document 01 calls it the book). It never sees the memories: `entered` is its only way to change.
+-- The reference that the theorem compares with (document 01, "Runs, cuts and the book": the book).
+-- It never sees the memories: `entered` is its only way to change.
 use Prim.Native.Nat.{ℕ, _+_, _/_, _%_}
 use mathlib.Core.Bool.{Bool, true, false, not, cond, _&&_}
 use mathlib.Core.Option.{Option, none, some}
 use mathlib.Core.List.{List, [], _∷_, _++_}
 use lib.ListN.{length, replicate}
 use lib.Dec.{eqb, ltb}
-use Rattle.protocol.specs.Calls.{Saves, Setup, Event, first-saved, saved, powered-up, advanced-by, PowerLoss, lost-in-store}
 use Rattle.octets.specs.Octets.{blank}
 use Rattle.checkpoint.specs.Checkpoint.{Checkpoint, sealed, own-tag}
 use Rattle.protocol.specs.Types.{Origin, Save, PowerUp}
+use Rattle.protocol.specs.Calls.{Saves, Setup, Event, first-saved, saved, powered-up, advanced-by, PowerLoss, lost-in-store}
 
+-- a store to come
 pub data Store : Type 0 where
   erase : Store
   word : Store
   record-slot : Store
 
+-- a checkpoint that is not recorded yet, and its stores to come
 pub record Draft : Type 0 where
   pub checkpoint : Checkpoint
   pub origin : Origin
@@ -22,6 +25,7 @@ pub record Draft : Type 0 where
   pub power-ups : ℕ
   pub stores : List Store
 
+-- the entry is the checkpoint recorded last; `count` counts the records, and an erase is `owed` or not
 pub record Journal : Type 0 where
   pub entry : Option Checkpoint
   pub count : ℕ
@@ -52,6 +56,7 @@ unfoldable pub erase-if : Bool → List Store
 erase-if true = erase ∷ []
 erase-if false = []
 
+-- an erase if owed, a word for each 4 bytes, the record, and an erase if the record opens a page and is not the first
 unfoldable pub stores-of : List ℕ → ℕ → Journal → Checkpoint → List Store
 stores-of key slots j c =
     erase-if (j .owed) ++ replicate (length (sealed key c) / 4) word ++ record-slot ∷ erase-if (ltb 0 (j .count) && eqb (j .count % slots) 0)
@@ -126,7 +131,9 @@ saved-entry key a (some c) j slots = drafted key slots Save (save-draft key (a .
 
 -- the journal after an event: it sees the call's arguments and whether the call stopped, and what a power loss left; never the memories
 unfoldable pub entered : Setup → Journal → Event → Bool → Journal
-entered u j (first-saved a) stopped = cond stopped j (drafted (u .key) (u .sizes .slots) Save (first-draft (a .arguments .nonce) (a .starting-tag) (a .arguments .open-part) (a .arguments .secret)) 0 j)
+entered u j (first-saved a) stopped =
+    let c = first-draft (a .arguments .nonce) (a .starting-tag) (a .arguments .open-part) (a .arguments .secret) in
+    cond stopped j (drafted (u .key) (u .sizes .slots) Save c 0 j)
 entered u j (saved a) stopped = cond stopped j (saved-entry (u .key) a (j .entry) j (u .sizes .slots))
 entered u j (powered-up a) stopped = cond stopped j (resumed-entry (u .key) (a .nonce) (j .entry) j (u .sizes .slots))
 entered u j (advanced-by a) stopped = cond stopped j (advanced j (j .draft))

@@ -6,9 +6,10 @@ use mathlib.Core.Option.{Option, none, some}
 use mathlib.Core.List.{List, [], _∷_}
 use lib.ListN.{length, take, replicate}
 use lib.Dec.{eqb, leb, ltb}
-use Rattle.octets.specs.Limits.{slot-length, part-limit, restart-limit, key-length, nonce-length, tag-length}
+use Rattle.octets.specs.Limits.{slot-length, part-limit, restart-limit, nonce-length, tag-length}
 use Rattle.octets.specs.Octets.{part, put, blank}
 use Rattle.stops.specs.Stops.{first-of}
+pub use Rattle.gcm.specs.Calls.{key-wrong, nonce-wrong, tag-wrong}
 use Rattle.ring.specs.Ring.{Newest, Blank, Unreadable, At, AtPending, ring-wrong, slot-at, page-at, record-of, half-named, page-before, read-ring, is-blank, is-unreadable, is-pending, newest-record, not-newest, nonce-used, target-page, target-slot, page-erased, record-put}
 use Rattle.checkpoint.specs.Fram.{fram-wrong, half-length, half-at}
 use Rattle.checkpoint.specs.Checkpoint.{Checkpoint, head-length, empty-length, sealed-length, part-wrong, own-tag, sealed}
@@ -21,16 +22,6 @@ abbrev pub newest-in : List ℕ → Sizes → Newest
 newest-in ring z = read-ring ring (z .pages) (z .slots)
 
 -- ---- conditions of document 01's table
-
--- stop 3, of a length
-abbrev pub key-wrong : ℕ → Bool
-key-wrong n = not (eqb n key-length)
-
-abbrev pub nonce-wrong : ℕ → Bool
-nonce-wrong n = not (eqb n nonce-length)
-
-abbrev pub tag-wrong : ℕ → Bool
-tag-wrong n = not (eqb n tag-length)
 
 -- stop 4, of a staging buffer and of a state buffer
 unfoldable pub staging-wrong : List ℕ → List ℕ → Bool

@@ -1,22 +1,22 @@
--- The theorem Recovery (document 01: demand 3, the cut rule): what every call of a list of calls and power losses answers and leaves, and what a power-up finds after it.
+-- The theorem Recovery (demand 3; document 01 calls it the cut rule): what every call of a list of calls and power losses answers and leaves,
+-- and what a power-up after the list finds.
 use Prim.Native.Nat.{ℕ, zero, suc, _-_, _≤_}
 use mathlib.Core.Path.{_≡_}
-use mathlib.Core.Bool.{Bool, true, false, cond}
+use mathlib.Core.Bool.{Bool, true, false, not, cond}
 use mathlib.Core.Option.{Option, none, some}
-use mathlib.Core.List.{List, [], _∷_, _++_}
-use mathlib.Core.List.{List·Memᴰ}
+use mathlib.Core.List.{List, [], _∷_, _++_, List·Memᴰ}
 use mathlib.Core.Logic.{_↔_, _⊎_}
 use lib.ListN.{length, replicate, take}
 use lib.Dec.{T}
-use Rattle.protocol.specs.Calls.{PowersUp, Looks, Advances, Setup, Event, first-saved, saved, powered-up, advanced-by, PowerLoss, lost-in-store}
 use Rattle.octets.specs.Limits.{part-limit, restart-limit, key-length, nonce-length}
 use Rattle.octets.specs.Octets.{put, blank}
 use Rattle.ring.specs.Ring.{At, ring-wrong, slot-at, half-named, read-ring}
 use Rattle.checkpoint.specs.Fram.{fram-wrong, half-length, half-at}
 use Rattle.checkpoint.specs.Checkpoint.{Checkpoint, own-tag, sealed}
-use Rattle.protocol.specs.Journal.{Draft, to-come, power-up-draft, stores-of}
 use Rattle.protocol.specs.Types.{Restarts, Unseen, Session, Origin, Save, PowerUp, Progress, GoingOn, Restored, Saved, Refused, Start, Begun, Stopped}
-use Rattle.protocol.specs.Operations.{Begin, no-job, first-save-stop, first-save, save-stop, save, power-up-stop, power-up, look, open-stretch, stretch-of, advance-stop, advance, no-session, session-of}
+use Rattle.protocol.specs.Calls.{PowersUp, Looks, Advances, Setup, Event, first-saved, saved, powered-up, advanced-by, PowerLoss, lost-in-store}
+use Rattle.protocol.specs.Operations.{Begin, Moved, no-job, first-save-stop, first-save, save-stop, save, power-up-stop, power-up, look, open-stretch, stretch-of, advance-stop, advance, no-session, session-of}
+use Rattle.protocol.specs.Journal.{Draft, to-come, power-up-draft, stores-of}
 use Rattle.protocol.specs.History.{State, Handed, broken-ring, broken-fram, bytes-of, fresh, run, step, is-stop, is-stopped, refused, Keeps, Allowed}
 
 -- ---- each call of a list
@@ -26,9 +26,11 @@ start-answer none = Begun
 start-answer (some x) = Stopped x
 
 -- an advance leaves its phase's store whole, and all else as it was: what a power loss in it would leave, with the whole store in its place
-pub record One-store (s : State) (a : Advances) : Type 0 where
-  pub ring : advance (s .ring) (s .fram) a .ring ≡ broken-ring (a .job .phase) (s .ring) (a .sizes .slots) (a .job) (bytes-of (a .job .phase) (a .job) (a .sizes .slots) (a .staging))
-  pub fram : advance (s .ring) (s .fram) a .fram ≡ broken-fram (a .job .phase) (s .fram) (a .job) (bytes-of (a .job .phase) (a .job) (a .sizes .slots) (a .staging))
+pub record OneStore (s : State) (a : Advances) : Type 0 where
+  pub ring : advance (s .ring) (s .fram) a .ring
+      ≡ broken-ring (a .job .phase) (s .ring) (a .sizes .slots) (a .job) (bytes-of (a .job .phase) (a .job) (a .sizes .slots) (a .staging))
+  pub fram : advance (s .ring) (s .fram) a .fram
+      ≡ broken-fram (a .job .phase) (s .fram) (a .job) (bytes-of (a .job .phase) (a .job) (a .sizes .slots) (a .staging))
 
 unfoldable pub is-going : Progress → Bool
 is-going GoingOn = true
@@ -42,15 +44,19 @@ Started stop b staging state =
     (b .answer ≡ start-answer stop)
     × (T (is-stop (b .answer)) → (b .job ≡ no-job) × (b .secret-length ≡ 0) × (b .staging ≡ staging) × (b .state ≡ state))
 
--- the call answers the first stop of document 01's table that applies, and then leaves every lent buffer and the job; else it does not stop, and an advance makes one store
+-- an advance answers `stop`, if that is one, with its job and no session, and then leaves the memories as they were;
+-- else it does not stop, hands out the job's session where it is not going on, and makes one store
+abbrev pub Advanced : State → Advances → Option ℕ → Moved → Type 0
+Advanced s a stop m =
+    ((x : ℕ) → stop ≡ some x → (m .progress ≡ Refused x) × (m .ring ≡ s .ring) × (m .fram ≡ s .fram) × (m .job ≡ a .job) × (m .session ≡ no-session))
+    × (stop ≡ none → (is-stopped (m .progress) ≡ false) × (m .session ≡ cond (is-going (m .progress)) no-session (session-of (a .job))) × OneStore s a)
+
+-- the call answers the first stop of document 01's table that applies, and what a stop leaves is as it was
 unfoldable pub Exact : State → Event → Type 0
 Exact s (first-saved a) = Started (first-save-stop (s .ring) (s .fram) a) (first-save (s .ring) (s .fram) a) (a .arguments .staging) []
 Exact s (saved a) = Started (save-stop (s .ring) (s .fram) a) (save (s .ring) (s .fram) a) (a .arguments .staging) []
 Exact s (powered-up a) = Started (power-up-stop (s .ring) (s .fram) a) (power-up (s .ring) (s .fram) a) (a .staging) (a .state)
-Exact s (advanced-by a) =
-    let m = advance (s .ring) (s .fram) a in
-    ((x : ℕ) → advance-stop (s .ring) (s .fram) a ≡ some x → (m .progress ≡ Refused x) × (m .ring ≡ s .ring) × (m .fram ≡ s .fram) × (m .job ≡ a .job) × (m .session ≡ no-session))
-    × (advance-stop (s .ring) (s .fram) a ≡ none → (is-stopped (m .progress) ≡ false) × (m .session ≡ cond (is-going (m .progress)) no-session (session-of (a .job))) × One-store s a)
+Exact s (advanced-by a) = Advanced s a (advance-stop (s .ring) (s .fram) a) (advance (s .ring) (s .fram) a)
 Exact s PowerLoss = Unit {0}
 Exact s (lost-in-store left) = Unit {0}
 
@@ -63,17 +69,27 @@ unfoldable pub said : Option Draft → Progress
 said none = GoingOn
 said (some d) = cond (to-come (d .stores)) GoingOn (ending (d .origin))
 
-unfoldable pub Told : Setup → State → Event → Type 0
-Told u s (first-saved a) = Unit {0}
-Told u s (saved a) = Unit {0}
-Told u s (powered-up a) = Unit {0}
-Told u s (advanced-by a) = T (refused s (advanced-by a)) ⊎ (advance (s .ring) (s .fram) a .progress ≡ said (step u s (advanced-by a) .journal .draft))
-Told u s PowerLoss = Unit {0}
-Told u s (lost-in-store left) = Unit {0}
+unfoldable pub store-left : Option Draft → Bool
+store-left none = false
+store-left (some d) = to-come (d .stores)
+
+-- an advance of the job handed out last stops exactly if no store is to come, and else says what the draft makes it say
+abbrev pub Told : Setup → State → Advances → Type 0
+Told u s a =
+    (refused s (advanced-by a) ≡ not (store-left (s .journal .draft)))
+    × (store-left (s .journal .draft) ≡ true → advance (s .ring) (s .fram) a .progress ≡ said (step u s (advanced-by a) .journal .draft))
+
+unfoldable pub Follows : Setup → State → Event → Type 0
+Follows u s (first-saved a) = Unit {0}
+Follows u s (saved a) = Unit {0}
+Follows u s (powered-up a) = Unit {0}
+Follows u s (advanced-by a) = Keeps u s (advanced-by a) → Told u s a
+Follows u s PowerLoss = Unit {0}
+Follows u s (lost-in-store left) = Unit {0}
 
 unfoldable pub Exactly : Setup → State → List Event → Type 0
 Exactly u s [] = Unit {0}
-Exactly u s (e ∷ more) = Exact s e × Told u s e × Exactly u (step u s e) more
+Exactly u s (e ∷ more) = Exact s e × Follows u s e × Exactly u (step u s e) more
 
 -- ---- the last power-up
 
@@ -129,7 +145,8 @@ advances-of u zero s = []
 advances-of u (suc n) s = with-handed (s .handed) (λ h.
     let e = advanced-by (record { sizes = u .sizes; job = h .job; staging = h .staging }) in e ∷ advances-of u n (step u s e))
 
--- in state t the checkpoint new is the journal's entry, the newest record has its nonce, the half which that record names begins with it, and the session handed out last is of that record
+-- in state t the checkpoint new is the journal's entry, the newest record has its nonce, the half which that record names begins with it,
+-- and the session handed out last is of that record
 pub record Stands (u : Setup) (t : State) (new : Checkpoint) : Type 0 where
   pub entry : t .journal .entry ≡ some new
   pub page : ℕ
@@ -138,7 +155,8 @@ pub record Stands (u : Setup) (t : State) (new : Checkpoint) : Type 0 where
   pub nonce : take nonce-length (slot-at (t .ring) (u .sizes .slots) page slot) ≡ new .nonce
   pub there : take (length (sealed (u .key) new)) (half-at (t .fram) (half-named (slot-at (t .ring) (u .sizes .slots) page slot))) ≡ sealed (u .key) new
   pub earlier : List Session
-  pub session : t .sessions ≡ record { page = page; slot = slot; latest = slot-at (t .ring) (u .sizes .slots) page slot; tag = own-tag (u .key) new } ∷ earlier
+  pub session : t .sessions
+      ≡ record { page = page; slot = slot; latest = slot-at (t .ring) (u .sizes .slots) page slot; tag = own-tag (u .key) new } ∷ earlier
 
 -- from state s the power-up a resumes the entry c
 pub record Resumes (u : Setup) (s : State) (a : PowersUp) (c : Checkpoint) : Type 0 where

@@ -1,5 +1,5 @@
-// Reading a ring: one pass over its pages. A page is looked at up to its first byte that is not 0xFF, and of the used pages
-// the newest alone is read on, so that no byte but one of a used page's slot 0 is looked at twice.
+// Reading a ring: one pass over its pages. Each is looked at up to its first byte that is not 0xFF. Of the used pages only the newest is
+// read on: its records by their place words, and the slots behind them byte by byte.
 use crate::Newest;
 use crate::pages::next_page;
 use crate::pages::page_at;

@@ -2,7 +2,7 @@
 use mathlib.Core.Path.{refl}
 use native.Mathlib.Omega.{arith}
 use borrow.Author.Needs.{needs}
-use Rattle.gcm.proofs.Keys.{key-length, under}
+use Rattle.gcm.proofs.Keys.{whole-key, under}
 use Rattle.checkpoint.proofs.under.good_tag_under.Statement.{statement}
 use Rattle.checkpoint.proofs.under.good_tag_under.Tie as tie
 
@@ -17,7 +17,7 @@ returns c =
     let expanded = c .before .before .before .before .before .before .before .before .before .before .before .before .before in
     let start = expanded .before .before .before .before .before in
     let key = start .args .key .now in
-    c .before .before .before .before .before .before .good-tag .ensures key (under key _ _ (key-length _ (start .pre .0)) (expanded .expand-key .ensures) refl)
+    c .before .before .before .before .before .before .good-tag .ensures key (under key _ _ (whole-key _ (start .pre .0)) (expanded .expand-key .ensures) refl)
 
 pub good-tag-under-spec : {M : Type 1} → statement M
 good-tag-under-spec =

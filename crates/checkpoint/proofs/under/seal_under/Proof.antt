@@ -2,7 +2,7 @@
 use mathlib.Core.Path.{refl}
 use native.Mathlib.Omega.{arith}
 use borrow.Author.Needs.{needs}
-use Rattle.gcm.proofs.Keys.{key-length, under}
+use Rattle.gcm.proofs.Keys.{whole-key, under}
 use Rattle.checkpoint.proofs.under.seal_under.Statement.{statement}
 use Rattle.checkpoint.proofs.under.seal_under.Tie as tie
 
@@ -24,7 +24,7 @@ returns c =
     let expanded = c .before .before .before .before .before .before .before .before .before .before .before .before .before .before .before .before in
     let start = expanded .before .before .before .before .before .before .before .before in
     let key = start .args .key .now in
-    c .before .before .before .before .before .before .before .before .seal .ensures key (under key _ _ (key-length _ (start .pre .0)) (expanded .expand-key .ensures) refl)
+    c .before .before .before .before .before .before .before .before .seal .ensures key (under key _ _ (whole-key _ (start .pre .0)) (expanded .expand-key .ensures) refl)
 
 pub seal-under-spec : {M : Type 1} → statement M
 seal-under-spec =

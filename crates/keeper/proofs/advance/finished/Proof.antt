@@ -1,6 +1,6 @@
 -- `keeper::advance::finished` meets its contract. Assumes nothing.
-use Rattle.protocol.specs.Operations.{finished}
 use borrow.Author.Needs.{needs}
+use Rattle.protocol.specs.Operations.{finished}
 use Rattle.keeper.proofs.advance.finished.Statement.{statement}
 use Rattle.keeper.proofs.advance.finished.Tie as tie
 

@@ -1,6 +1,6 @@
 -- `keeper::buffers::wipe` meets its contract. Assumes nothing.
-use Rattle.protocol.specs.Operations.{wipe}
 use borrow.Author.Needs.{needs}
+use Rattle.protocol.specs.Operations.{wipe}
 use Rattle.keeper.proofs.buffers.wipe.Statement.{statement}
 use Rattle.keeper.proofs.buffers.wipe.Tie as tie
 

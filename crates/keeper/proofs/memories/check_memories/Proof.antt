@@ -1,6 +1,6 @@
 -- `keeper::memories::check_memories` meets its contract. Assumes nothing.
-use Rattle.stops.proofs.Laws.{tried, tried-first}
 use borrow.Author.Needs.{needs}
+use Rattle.stops.proofs.Laws.{tried, tried-first}
 use Rattle.keeper.proofs.memories.check_memories.Statement.{statement}
 use Rattle.keeper.proofs.memories.check_memories.Tie as tie
 

@@ -1,13 +1,13 @@
 -- `keeper::memories::copy_word` meets its contract: the part that was lent comes back as the word. Assumes nothing.
-use lib.ListN.{length}
-use mathlib.Core.Path.{_≡_}
 use Prim.Native.Nat.{_+_, _*_}
+use mathlib.Core.Path.{_≡_}
 use native.Mathlib.Nat.{add-sub-cancel-left, add-zero}
 use native.Mathlib.Omega.{arith}
+use lib.ListN.{length}
+use borrow.Author.Needs.{needs}
 use Rattle.octets.specs.Octets.{part}
 use Rattle.octets.proofs.Lent.{put-part}
 use Rattle.checkpoint.specs.Fram.{half-length}
-use borrow.Author.Needs.{needs}
 use Rattle.keeper.proofs.memories.copy_word.Statement.{statement}
 use Rattle.keeper.proofs.memories.copy_word.Tie as tie
 
@@ -29,7 +29,8 @@ part-copy-end c = search needs
 
 returns : tie.Need-returns
 unfolding half-length part
-returns c = let a = c .before .before .before .before .before .before .before .args in
+returns c =
+    let a = c .before .before .before .before .before .before .before .args in
     let word = c .before .before .before .before .part in
     let n : length (word .result .now) ≡ 4 = word .ensures .1 in
     rw (

@@ -2,7 +2,7 @@
 use mathlib.Core.Path.{refl}
 use native.Mathlib.Omega.{arith}
 use borrow.Author.Needs.{needs}
-use Rattle.gcm.proofs.Keys.{key-length, under}
+use Rattle.gcm.proofs.Keys.{whole-key, under}
 use Rattle.keeper.proofs.resuming.reseal.Statement.{statement}
 use Rattle.keeper.proofs.resuming.reseal.Tie as tie
 
@@ -17,7 +17,7 @@ returns c =
     let expanded = c .before .before .before .before .before .before .before .before .before .before .before .before .before .before .before .before .before .before .before in
     let s = expanded .before .before .before .before .before .before .before .before in
     let key = s .args .key .now in
-    c .before .before .before .before .before .before .before .before .before .before .reseal-prepared .ensures key (under key _ _ (key-length _ (s .pre .0)) (expanded .expand-key .ensures) refl)
+    c .before .before .before .before .before .before .before .before .before .before .reseal-prepared .ensures key (under key _ _ (whole-key _ (s .pre .0)) (expanded .expand-key .ensures) refl)
 
 pub reseal-spec : {M : Type 1} → statement M
 reseal-spec =

@@ -1,8 +1,8 @@
 -- `keeper::types::Job::advance` meets its contract: it stops as the checks say, and else stores. Assumes nothing.
-use Rattle.protocol.specs.Operations.{advance-by, advance}
-use Rattle.stops.specs.View.{check-number}
 use mathlib.Core.Path.{sym, ap, _∙_}
 use borrow.Author.Needs.{needs}
+use Rattle.stops.specs.View.{check-number}
+use Rattle.protocol.specs.Operations.{advance-by, advance}
 use Rattle.keeper.proofs.types.Job.advance.Statement.{statement}
 use Rattle.keeper.proofs.types.Job.advance.Tie as tie
 

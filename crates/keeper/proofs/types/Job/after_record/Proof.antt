@@ -1,9 +1,9 @@
 -- `keeper::types::Job::after_record` meets its contract: each way out is a case of the definition. Assumes nothing.
-use Rattle.protocol.specs.Operations.{erase-follows}
-use Rattle.ring.proofs.TurnLaws.{before-laws}
-use Rattle.ring.proofs.SizeLaws.{sized, page-ends}
 use borrow.Author.Tests.{eq-eqb, ne-eqb}
 use borrow.Author.Needs.{needs}
+use Rattle.ring.proofs.TurnLaws.{before-laws}
+use Rattle.ring.proofs.SizeLaws.{sized, page-ends}
+use Rattle.protocol.specs.Operations.{erase-follows}
 use Rattle.keeper.proofs.types.Job.after_record.Statement.{statement}
 use Rattle.keeper.proofs.types.Job.after_record.Tie as tie
 
@@ -12,7 +12,8 @@ unfolding erase-follows
 returns c fram = rw (ne-eqb _ _ (c .before .if1 .taken)) (c .ended .ensures _ fram)
 
 page-is-blank-requires : tie.Need-page-is-blank-requires
-page-is-blank-requires c κs = let a = c .before .before .before .before .args in
+page-is-blank-requires c κs =
+    let a = c .before .before .before .before .args in
     let p = c .before .before .before .before .pre in
     let size = sized (a .pages) (a .slots) (a .ring .now) (p .2) in
     rw (c .page-before .ensures) (page-ends size _ (before-laws (a .pages) (a .self .page) (size .numbers .some-pages) (p .1) .in-ring))

@@ -1,6 +1,6 @@
 -- `keeper::types::Job::ended` meets its contract. Assumes nothing.
-use Rattle.protocol.specs.Operations.{ended}
 use borrow.Author.Needs.{needs}
+use Rattle.protocol.specs.Operations.{ended}
 use Rattle.keeper.proofs.types.Job.ended.Statement.{statement}
 use Rattle.keeper.proofs.types.Job.ended.Tie as tie
 

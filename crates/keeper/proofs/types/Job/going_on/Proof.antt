@@ -1,6 +1,6 @@
 -- `keeper::types::Job::going_on` meets its contract. Assumes nothing.
-use Rattle.protocol.specs.Operations.{going-on}
 use borrow.Author.Needs.{needs}
+use Rattle.protocol.specs.Operations.{going-on}
 use Rattle.keeper.proofs.types.Job.going_on.Statement.{statement}
 use Rattle.keeper.proofs.types.Job.going_on.Tie as tie
 

@@ -1,7 +1,7 @@
 -- `keeper::types::Job::phase_wrong` meets its contract: each arm is a case of the definition. Assumes nothing.
+use borrow.Author.Needs.{needs}
 use Rattle.protocol.specs.Operations.{phase-wrong}
 use Rattle.keeper.proofs.AdvanceLaws.{words-left}
-use borrow.Author.Needs.{needs}
 use Rattle.keeper.proofs.types.Job.phase_wrong.Statement.{statement}
 use Rattle.keeper.proofs.types.Job.phase_wrong.Tie as tie
 

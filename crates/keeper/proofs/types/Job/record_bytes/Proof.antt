@@ -1,6 +1,6 @@
 -- `keeper::types::Job::record_bytes` meets its contract. Assumes nothing.
-use Rattle.protocol.specs.Operations.{job-record}
 use borrow.Author.Needs.{needs}
+use Rattle.protocol.specs.Operations.{job-record}
 use Rattle.keeper.proofs.types.Job.record_bytes.Statement.{statement}
 use Rattle.keeper.proofs.types.Job.record_bytes.Tie as tie
 

@@ -1,6 +1,6 @@
 -- `keeper::types::Job::refused` meets its contract. Assumes nothing.
-use Rattle.protocol.specs.Operations.{advance-by}
 use borrow.Author.Needs.{needs}
+use Rattle.protocol.specs.Operations.{advance-by}
 use Rattle.keeper.proofs.types.Job.refused.Statement.{statement}
 use Rattle.keeper.proofs.types.Job.refused.Tie as tie
 

@@ -1,6 +1,6 @@
 -- `keeper::types::Job::session` meets its contract. Assumes nothing.
-use Rattle.protocol.specs.Operations.{session-of}
 use borrow.Author.Needs.{needs}
+use Rattle.protocol.specs.Operations.{session-of}
 use Rattle.keeper.proofs.types.Job.session.Statement.{statement}
 use Rattle.keeper.proofs.types.Job.session.Tie as tie
 

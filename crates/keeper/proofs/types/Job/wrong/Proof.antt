@@ -1,6 +1,6 @@
 -- `keeper::types::Job::wrong` meets its contract: the tests on the numbers are one flag. Assumes nothing.
-use Rattle.checkpoint.specs.Fram.{half-length}
 use Rattle.ring.proofs.SizeLaws.{sized, slot-ends}
+use Rattle.checkpoint.specs.Fram.{half-length}
 use Rattle.protocol.specs.Operations.{job-wrong}
 use Rattle.keeper.specs.View.{view-job, sizes}
 use Rattle.keeper.proofs.AdvanceLaws.{placed}
@@ -13,7 +13,8 @@ returns c = rw (c .if1 .taken)
 
 phase-wrong-requires : tie.Need-phase-wrong-requires
 unfolding half-length
-phase-wrong-requires c κs = let a = c .before .before .before .before .before .before .before .before .before .args in
+phase-wrong-requires c κs =
+    let a = c .before .before .before .before .before .before .before .before .before .args in
     let p = placed (view-job (a .self)) (sizes (a .pages) (a .slots)) (a .fram .now) (c .if1 .left) in
     (p .words, slot-ends (sized (a .pages) (a .slots) (a .ring .now) (c .before .before .before .before .before .before .before .before .before .pre)) (a .self .page) (p .page) (a .self .slot) (p .slot))
 

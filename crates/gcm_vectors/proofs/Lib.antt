@@ -1,0 +1,2 @@
+-- Worked examples, as theorems.
+pub mod Examples
