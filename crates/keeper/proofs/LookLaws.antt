@@ -10,7 +10,7 @@ use borrow.Author.Tests.{eqb-true, not-false}
 use Rattle.octets.specs.Octets.{part}
 use Rattle.octets.specs.Limits.{key-length, nonce-length}
 use Rattle.stops.specs.Stops.{first-of, then-stop}
-use Rattle.stops.proofs.Laws.{tried, tried-first, first-append, passes}
+use Rattle.stops.proofs.Laws.{tried, tried-first, first-append, no-lines, one-more, passes}
 use Rattle.ring.specs.Ring.{Newest, ring-wrong, read-ring, is-blank, is-unreadable, newest-record, half-named}
 use Rattle.ring.proofs.NewestLaws.{newest-half-fits}
 use Rattle.checkpoint.specs.Checkpoint.{head-length}
@@ -68,10 +68,8 @@ module _ (pages slots : ℕ) (ring fram key : List ℕ) where
   -- the ring's two conditions tried one after the other
   pub ring-tried : (n : Newest) (b u : Bool) (o₁ o₂ : Option ℕ) → n ≡ read-ring ring pages slots → b ≡ is-blank n → u ≡ is-unreadable n
       → o₁ ≡ then-stop none 6 b → o₂ ≡ then-stop o₁ 7 u → o₂ ≡ first-of ring-lines
-  unfolding tried
   ring-tried n b u o₁ o₂ r x y f g =
-      g ∙ ap (λ (o : Option ℕ). then-stop o 7 u) f ∙ (λ i. then-stop (then-stop none 6 (x i)) 7 (y i))
-      ∙ ap (λ (m : Newest). then-stop (then-stop none 6 (is-blank m)) 7 (is-unreadable m)) r ∙ tried-first ring-lines
+      one-more (_ ∷ []) 7 _ u o₁ o₂ (one-more [] 6 _ b none o₁ no-lines (x ∙ ap is-blank r) f) (y ∙ ap is-unreadable r) g
 
   -- the record that was found names a half
   pub names-half : (n : Newest) (rec : List ℕ) → n ≡ read-ring ring pages slots → rec ≡ newest-record ring slots n

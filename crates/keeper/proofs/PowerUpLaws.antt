@@ -1,6 +1,6 @@
 -- The stops of power-up, stage by stage, and what it answers. Assumes nothing.
 use Prim.Native.Nat.{ℕ, _-_, _<_, _≤_}
-use mathlib.Core.Path.{_≡_, refl, sym, _∙_}
+use mathlib.Core.Path.{_≡_, _∙_}
 use mathlib.Core.Bool.{Bool, true, false, not, _||_}
 use mathlib.Core.Option.{Option, none, some}
 use mathlib.Core.List.{List, [], _∷_, _++_}
@@ -10,7 +10,7 @@ use lib.ListN.{length, take}
 use borrow.Author.Tests.{eqb-true, ltb-false, not-false}
 use Rattle.octets.specs.Limits.{key-length, nonce-length, part-limit}
 use Rattle.stops.specs.Stops.{first-of, then-stop}
-use Rattle.stops.proofs.Laws.{tried, tried-first, first-append, passes, neither}
+use Rattle.stops.proofs.Laws.{tried, tried-first, first-append, no-lines, one-more, passes, neither}
 use Rattle.ring.specs.Ring.{Newest, ring-wrong, read-ring, is-blank, is-unreadable, nonce-used, newest-record, half-named, target-page, target-slot}
 use Rattle.ring.proofs.NewestLaws.{newest-half-fits}
 use Rattle.checkpoint.specs.Checkpoint.{empty-length}
@@ -29,19 +29,12 @@ pub buffers-tried : (ring fram : List ℕ) (a : PowersUp) (c d : Bool) (o₂ o�
     → o₂ ≡ first-of ((1, ring-wrong (a .sizes .pages) (a .sizes .slots) ring) ∷ (2, fram-wrong fram) ∷ [])
     → c ≡ key-wrong (length (a .key)) || nonce-wrong (length (a .nonce)) → d ≡ staging-wrong (a .staging) fram || state-wrong (a .state)
     → o₃ ≡ then-stop o₂ 3 c → o₄ ≡ then-stop o₃ 4 d → o₄ ≡ first-of (power-up-buffers ring fram a)
-unfolding tried
-buffers-tried ring fram a c d o₂ o₃ o₄ e x y f g =
-    let first : List (ℕ × Bool) = (1, ring-wrong (a .sizes .pages) (a .sizes .slots) ring) ∷ (2, fram-wrong fram) ∷ [] in
-    let second : List (ℕ × Bool) = (3, key-wrong (length (a .key)) || nonce-wrong (length (a .nonce))) ∷ (4, staging-wrong (a .staging) fram || state-wrong (a .state)) ∷ [] in
-    g ∙ (λ i. then-stop (f i) 4 (y i)) ∙ (λ i. then-stop (then-stop (e i) 3 (x i)) 4 (staging-wrong (a .staging) fram || state-wrong (a .state)))
-    ∙ sym (first-append first second refl)
+buffers-tried ring fram a c d o₂ o₃ o₄ e x y f g = one-more (_ ∷ _ ∷ _ ∷ []) 4 _ d o₃ o₄ (one-more (_ ∷ _ ∷ []) 3 _ c o₂ o₃ e x f) y g
 
 pub ring-tried : (ring : List ℕ) (slots : ℕ) (n : Newest) (nonce : List ℕ) (b u x : Bool) (o₁ o₂ o₃ : Option ℕ) → b ≡ is-blank n → u ≡ is-unreadable n → x ≡ nonce-used ring slots n nonce
     → o₁ ≡ then-stop none 6 b → o₂ ≡ then-stop o₁ 7 u → o₃ ≡ then-stop o₂ 10 x → o₃ ≡ first-of (power-up-ring ring slots n nonce)
-unfolding tried
 ring-tried ring slots n nonce b u x o₁ o₂ o₃ eb eu ex f g h =
-    h ∙ (λ i. then-stop (g i) 10 x) ∙ (λ i. then-stop (then-stop (f i) 7 u) 10 x)
-    ∙ (λ i. then-stop (then-stop (then-stop none 6 (eb i)) 7 (eu i)) 10 (ex i)) ∙ tried-first (power-up-ring ring slots n nonce)
+    one-more (_ ∷ _ ∷ []) 10 _ x o₂ o₃ (one-more (_ ∷ []) 7 _ u o₁ o₂ (one-more [] 6 _ b none o₁ no-lines eb f) eu g) ex h
 
 -- ---- what holds where the buffers pass
 

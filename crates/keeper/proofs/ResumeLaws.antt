@@ -3,7 +3,7 @@ use Prim.Native.Nat.{ℕ, _+_, _<_, _≤_}
 use mathlib.Core.Path.{_≡_, refl, sym, ap, _∙_}
 use mathlib.Core.Bool.{Bool, true, false, not}
 use mathlib.Core.Option.{Option, none, some}
-use mathlib.Core.List.{List}
+use mathlib.Core.List.{List, [], _∷_}
 use lib.Dec.{eqb}
 use borrow.Author.Tests.{eqb-false, not-false}
 use native.Mathlib.Omega.{arith}
@@ -12,7 +12,7 @@ use Rattle.octets.specs.Limits.{part-limit, restart-limit, tag-length}
 use Rattle.octets.specs.Octets.{part, put}
 use Rattle.octets.proofs.Laws.{part-put-same}
 use Rattle.stops.specs.Stops.{first-of, then-stop}
-use Rattle.stops.proofs.Laws.{tried, tried-first, passes}
+use Rattle.stops.proofs.Laws.{no-lines, one-more, passes}
 use Rattle.gcm.proofs.Laws.{length-encrypted}
 use Rattle.checkpoint.specs.Checkpoint.{Checkpoint, head-length, own-tag, sealed, sealed-length}
 use Rattle.checkpoint.specs.Half.{open-length, secret-length, stored-restarts, stored-open, stored-cipher, stored-tag, good-head, good-tag, stored}
@@ -59,10 +59,8 @@ module _ (key latest half nonce : List ℕ) (good : good-head half ≡ true) whe
 
 pub half-tried : (key latest half : List ℕ) (g : Bool) (r : ℕ) (o₁ o₂ : Option ℕ) → g ≡ good-tag key latest half → r ≡ stored-restarts half
     → o₁ ≡ then-stop none 12 (not g) → o₂ ≡ then-stop o₁ 13 (eqb r restart-limit) → o₂ ≡ first-of (half-lines key latest half)
-unfolding tried
 half-tried key latest half g r o₁ o₂ x y e f =
-    f ∙ (λ i. then-stop (e i) 13 (eqb (y i) restart-limit)) ∙ (λ i. then-stop (then-stop none 12 (not (x i))) 13 (eqb (stored-restarts half) restart-limit))
-    ∙ tried-first (half-lines key latest half)
+    one-more (_ ∷ []) 13 _ (eqb r restart-limit) o₁ o₂ (one-more [] 12 _ (not g) none o₁ no-lines (ap not x) e) (ap (λ (n : ℕ). eqb n restart-limit) y) f
 
 pub tag-passes : (key latest half : List ℕ) → first-of (half-lines key latest half) ≡ none → good-tag key latest half ≡ true
 tag-passes key latest half e = not-false (good-tag key latest half) (passes _ e .0)

@@ -1,6 +1,6 @@
 -- The stops of first save and save, stage by stage, and what they answer. Assumes nothing.
 use Prim.Native.Nat.{ℕ, _-_, _%_, _≤_}
-use mathlib.Core.Path.{_≡_, refl, sym, _∙_}
+use mathlib.Core.Path.{_≡_, ap, _∙_}
 use mathlib.Core.Bool.{Bool, false, not, _||_}
 use mathlib.Core.Option.{Option, none, some}
 use mathlib.Core.List.{List, [], _∷_}
@@ -11,7 +11,7 @@ use borrow.Author.Tests.{eqb-true, ltb-false, not-false}
 use Rattle.octets.specs.Limits.{key-length, nonce-length, part-limit, tag-length}
 use Rattle.octets.specs.Octets.{blank}
 use Rattle.stops.specs.Stops.{first-of, then-stop}
-use Rattle.stops.proofs.Laws.{tried, tried-first, first-append, passes, neither}
+use Rattle.stops.proofs.Laws.{tried, tried-first, first-append, one-more, passes, neither}
 use Rattle.ring.specs.Ring.{Newest, ring-wrong, read-ring, newest-record, half-named, target-page, target-slot}
 use Rattle.checkpoint.specs.Checkpoint.{part-wrong, sealed-length}
 use Rattle.checkpoint.specs.Fram.{fram-wrong, half-length}
@@ -23,26 +23,20 @@ use Rattle.keeper.specs.Stages.{stopped, save-buffers, save-ring}
 
 -- ---- conditions tried one after the other
 
-four : (A B C D c d : Bool) (o₂ o₃ o₄ : Option ℕ) → o₂ ≡ first-of ((1, A) ∷ (2, B) ∷ []) → c ≡ C → d ≡ D → o₃ ≡ then-stop o₂ 3 c → o₄ ≡ then-stop o₃ 4 d
-    → o₄ ≡ first-of ((1, A) ∷ (2, B) ∷ (3, C) ∷ (4, D) ∷ [])
-unfolding tried
-four A B C D c d o₂ o₃ o₄ e x y f g =
-    g ∙ (λ i. then-stop (f i) 4 (y i)) ∙ (λ i. then-stop (then-stop (e i) 3 (x i)) 4 D) ∙ sym (first-append ((1, A) ∷ (2, B) ∷ []) ((3, C) ∷ (4, D) ∷ []) refl)
-
 pub buffers-tried : (ring fram : List ℕ) (a : SaveArguments) (c d : Bool) (o₂ o₃ o₄ : Option ℕ)
     → o₂ ≡ first-of ((1, ring-wrong (a .sizes .pages) (a .sizes .slots) ring) ∷ (2, fram-wrong fram) ∷ [])
     → c ≡ key-wrong (length (a .key)) || nonce-wrong (length (a .nonce)) → d ≡ parts-wrong (a .open-part) (a .secret) fram || staging-wrong (a .staging) fram
     → o₃ ≡ then-stop o₂ 3 c → o₄ ≡ then-stop o₃ 4 d → o₄ ≡ first-of (save-buffers ring fram a)
-buffers-tried ring fram a c d o₂ o₃ o₄ e x y f g = four _ _ _ _ c d o₂ o₃ o₄ e x y f g
+buffers-tried ring fram a c d o₂ o₃ o₄ e x y f g = one-more (_ ∷ _ ∷ _ ∷ []) 4 _ d o₃ o₄ (one-more (_ ∷ _ ∷ []) 3 _ c o₂ o₃ e x f) y g
 
 pub first-tried : (ring fram : List ℕ) (a : FirstSave) (c d b : Bool) (o₂ o₃ o₄ o₅ : Option ℕ)
     → o₂ ≡ first-of ((1, ring-wrong (a .arguments .sizes .pages) (a .arguments .sizes .slots) ring) ∷ (2, fram-wrong fram) ∷ [])
     → c ≡ key-wrong (length (a .arguments .key)) || nonce-wrong (length (a .arguments .nonce)) || tag-wrong (length (a .starting-tag))
     → d ≡ parts-wrong (a .arguments .open-part) (a .arguments .secret) fram || staging-wrong (a .arguments .staging) fram → b ≡ blank ring
     → o₃ ≡ then-stop o₂ 3 c → o₄ ≡ then-stop o₃ 4 d → o₅ ≡ then-stop o₄ 5 (not b) → o₅ ≡ first-save-stop ring fram a
-unfolding first-save-stop tried
+unfolding first-save-stop
 first-tried ring fram a c d b o₂ o₃ o₄ o₅ e x y z f g h =
-    h ∙ (λ i. then-stop (four _ _ _ _ c d o₂ o₃ o₄ e x y f g i) 5 (not (z i))) ∙ sym (first-append (_ ∷ _ ∷ _ ∷ _ ∷ []) (_ ∷ []) refl)
+    one-more (_ ∷ _ ∷ _ ∷ _ ∷ []) 5 _ (not b) o₄ o₅ (one-more (_ ∷ _ ∷ _ ∷ []) 4 _ d o₃ o₄ (one-more (_ ∷ _ ∷ []) 3 _ c o₂ o₃ e x f) y g) (ap not z) h
 
 -- ---- what holds where the buffers pass
 
@@ -53,7 +47,7 @@ pub record Lengths (fram : List ℕ) (a : SaveArguments) : Type 0 where
   pub secret : length (a .secret) ≤ part-limit
   pub staging : sealed-length (length (a .open-part)) (length (a .secret)) ≤ length (a .staging)
 
-small : (p : List ℕ) → part-wrong p ≡ false → length p ≤ part-limit
+pub small : (p : List ℕ) → part-wrong p ≡ false → length p ≤ part-limit
 unfolding part-wrong
 small p e = ltb-false part-limit (length p) (neither (not (eqb (length p % 4) 0)) (ltb part-limit (length p)) e .1)
 

@@ -1,27 +1,15 @@
 -- `keeper::looking::see` meets its contract. Assumes nothing.
-use mathlib.Core.Path.{_≡_, refl, sym, ap, _∙_}
-use mathlib.Core.Bool.{Bool}
-use mathlib.Core.Option.{Option}
-use mathlib.Core.List.{List, [], _∷_}
-use Prim.Native.Nat.{ℕ}
-use lib.ListN.{length}
+use mathlib.Core.Path.{_≡_, sym, ap, _∙_}
+use mathlib.Core.List.{[], _∷_}
 use borrow.Author.Needs.{needs}
-use Rattle.stops.specs.Stops.{first-of, then-stop}
+use Rattle.stops.specs.Stops.{first-of}
 use Rattle.stops.specs.View.{check-number}
-use Rattle.stops.proofs.Laws.{tried, first-append}
-use Rattle.ring.specs.Ring.{ring-wrong}
-use Rattle.checkpoint.specs.Fram.{fram-wrong}
+use Rattle.stops.proofs.Laws.{one-more}
 use Rattle.gcm.specs.Calls.{key-wrong}
 use Rattle.keeper.specs.Stages.{look-buffers}
 use Rattle.keeper.proofs.LookLaws.{stopped-not-none, buffers-stop}
 use Rattle.keeper.proofs.looking.see.Statement.{statement}
 use Rattle.keeper.proofs.looking.see.Tie as tie
-
-three : (pages slots : ℕ) (ring fram key : List ℕ) (w : Bool) (o₂ o₃ : Option ℕ) → o₂ ≡ first-of ((1, ring-wrong pages slots ring) ∷ (2, fram-wrong fram) ∷ [])
-    → w ≡ key-wrong (length key) → o₃ ≡ then-stop o₂ 3 w → o₃ ≡ first-of (look-buffers pages slots ring fram key)
-unfolding tried
-three pages slots ring fram key w o₂ o₃ e f g =
-    g ∙ (λ i. then-stop (e i) 3 (f i)) ∙ sym (first-append ((1, ring-wrong pages slots ring) ∷ (2, fram-wrong fram) ∷ []) ((3, key-wrong (length key)) ∷ []) refl)
 
 abbrev start : tie.After-stop-if → tie.Start
 start c = c .before .before .before .before .before .before
@@ -29,8 +17,7 @@ start c = c .before .before .before .before .before .before
 buffers-check : (c : tie.After-stop-if) → let a = start c .args in
     check-number (c .stop-if .result) ≡ first-of (look-buffers (a .pages) (a .slots) (a .ring .now) (a .fram .now) (a .key .now))
 buffers-check c =
-    let a = start c .args in
-    three (a .pages) (a .slots) (a .ring .now) (a .fram .now) (a .key .now) _ _ _ (c .before .before .check-memories .ensures) (c .before .key-wrong .ensures) (c .stop-if .ensures)
+    one-more (_ ∷ _ ∷ []) 3 _ _ _ _ (c .before .before .check-memories .ensures) (c .before .key-wrong .ensures) (c .stop-if .ensures)
 
 see-newest-requires : tie.Need-see-newest-requires
 see-newest-requires c κs = sym (buffers-check (c .before .before)) ∙ ap check-number (c .enum-told .given .1)

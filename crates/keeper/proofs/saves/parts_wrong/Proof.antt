@@ -1,18 +1,17 @@
 -- `keeper::saves::parts_wrong` meets its contract. Assumes nothing.
 use mathlib.Core.Path.{_≡_, sym, ap, _∙_}
-use mathlib.Core.Bool.{Bool, true, false, not, _||_}
+use mathlib.Core.Bool.{Bool, true, false, _||_}
 use mathlib.Core.List.{List}
-use Prim.Native.Nat.{ℕ, _%_, _≤_}
+use Prim.Native.Nat.{ℕ}
 use native.Mathlib.Omega.{arith}
-use lib.Dec.{eqb, ltb}
+use lib.Dec.{ltb}
 use lib.ListN.{length}
-use borrow.Author.Tests.{ltb-false}
 use borrow.Author.Needs.{needs}
-use Rattle.octets.specs.Limits.{part-limit}
 use Rattle.stops.proofs.Laws.{neither}
 use Rattle.checkpoint.specs.Checkpoint.{part-wrong, sealed-length}
 use Rattle.checkpoint.specs.Fram.{half-length}
 use Rattle.protocol.specs.Operations.{parts-wrong}
+use Rattle.keeper.proofs.SaveLaws.{small}
 use Rattle.keeper.proofs.saves.parts_wrong.Statement.{statement}
 use Rattle.keeper.proofs.saves.parts_wrong.Tie as tie
 
@@ -29,10 +28,6 @@ right open-part secret fram x y e f t =
     let both : part-wrong open-part || part-wrong secret ≡ false = sym (λ i. e i || f i) ∙ t in
     sym (ap (λ (b : Bool). b || ltb (half-length fram) (sealed-length (length open-part) (length secret))) both)
 
-small : (p : List ℕ) (x : Bool) → x ≡ part-wrong p → x ≡ false → length p ≤ part-limit
-unfolding part-wrong
-small p x e f = ltb-false part-limit (length p) (neither (not (eqb (length p % 4) 0)) (ltb part-limit (length p)) (sym e ∙ f) .1)
-
 returns : tie.Need-returns
 returns c =
     let a = c .before .before .before .before .before .before .args in
@@ -42,8 +37,8 @@ add-result-2 : tie.Need-add-result-2
 add-result-2 c =
     let a = c .before .before .before .before .before .before .args in
     let both = neither _ _ (c .if1 .left) in
-    let x = small (a .«open» .now) _ (c .before .before .part-wrong .ensures) (both .0) in
-    let y = small (a .secret .now) _ (c .before .part-wrong2 .ensures) (both .1) in
+    let x = small (a .«open» .now) (sym (c .before .before .part-wrong .ensures) ∙ both .0) in
+    let y = small (a .secret .now) (sym (c .before .part-wrong2 .ensures) ∙ both .1) in
     omega (arith, x, y)
 
 returns-2 : tie.Need-returns-2

@@ -1,12 +1,12 @@
 -- `keeper::types::Session::check_ring` meets its contract. Assumes nothing.
-use mathlib.Core.Path.{_≡_, _∙_}
+use mathlib.Core.Path.{_≡_}
 use mathlib.Core.Bool.{Bool}
 use mathlib.Core.Option.{Option, none}
-use mathlib.Core.List.{List}
+use mathlib.Core.List.{List, [], _∷_}
 use Prim.Native.Nat.{ℕ}
 use borrow.Author.Needs.{needs}
 use Rattle.stops.specs.Stops.{first-of, then-stop}
-use Rattle.stops.proofs.Laws.{tried, tried-first}
+use Rattle.stops.proofs.Laws.{no-lines, one-more}
 use Rattle.ring.specs.Ring.{Newest, is-blank, is-unreadable, is-pending, nonce-used, not-newest}
 use Rattle.protocol.specs.Types.{Session}
 use Rattle.protocol.specs.Operations.{stale}
@@ -19,11 +19,10 @@ five : (ring : List ℕ) (slots : ℕ) (n : Newest) (s : Session) (nonce : List 
     → b ≡ is-blank n → u ≡ is-unreadable n → t ≡ not-newest ring slots n (s .page) (s .slot) (s .latest) → p ≡ is-pending n → x ≡ nonce-used ring slots n nonce
     → o₁ ≡ then-stop none 6 b → o₂ ≡ then-stop o₁ 7 u → o₃ ≡ then-stop o₂ 8 t → o₄ ≡ then-stop o₃ 9 p → o₅ ≡ then-stop o₄ 10 x
     → o₅ ≡ first-of (save-ring ring slots n s nonce)
-unfolding tried stale
+unfolding stale
 five ring slots n s nonce b u t p x o₁ o₂ o₃ o₄ o₅ eb eu et ep ex f g h k l =
-    l ∙ (λ i. then-stop (k i) 10 x) ∙ (λ i. then-stop (then-stop (h i) 9 p) 10 x) ∙ (λ i. then-stop (then-stop (then-stop (g i) 8 t) 9 p) 10 x)
-    ∙ (λ i. then-stop (then-stop (then-stop (then-stop (f i) 7 u) 8 t) 9 p) 10 x)
-    ∙ (λ i. then-stop (then-stop (then-stop (then-stop (then-stop none 6 (eb i)) 7 (eu i)) 8 (et i)) 9 (ep i)) 10 (ex i)) ∙ tried-first (save-ring ring slots n s nonce)
+    one-more (_ ∷ _ ∷ _ ∷ _ ∷ []) 10 _ x o₄ o₅
+    (one-more (_ ∷ _ ∷ _ ∷ []) 9 _ p o₃ o₄ (one-more (_ ∷ _ ∷ []) 8 _ t o₂ o₃ (one-more (_ ∷ []) 7 _ u o₁ o₂ (one-more [] 6 _ b none o₁ no-lines eb f) eu g) et h) ep k) ex l
 
 returns : tie.Need-returns
 returns c =
