@@ -1,5 +1,5 @@
 # make test   every proof, every must-fail edit and every program; the last line is 'N passed, 0 failed'
-# make demo   what the library does, as a program
+# make demo   the life of a unit
 
 .PHONY: test demo kit
 
@@ -7,8 +7,8 @@ test: kit
 	@rt ci
 
 demo: kit
-	@rt check aes_vectors > /dev/null
-	@cd crates/aes_vectors/data && ../../../target/bin/aes_vectors
+	@rt check keeper_values > /dev/null
+	@target/bin/keeper_values
 
 kit:
 	@command -v rt > /dev/null || { echo "rt, the command of the Rattle kit, is missing: unpack the kit and put its bin folder on the PATH" >&2; exit 1; }

@@ -71,7 +71,7 @@ module _ (key nonce half : List ℕ) (good : good-head half ≡ true) where
   facts : GoodHead half
   facts = head-facts half good
 
-  length-open : length (stored-open half) ≡ open-length half
+  pub length-open : length (stored-open half) ≡ open-length half
   unfolding stored-open
   length-open = length-part half head-length (open-length half) (omega (arith, facts .fits))
 
@@ -79,7 +79,7 @@ module _ (key nonce half : List ℕ) (good : good-head half ≡ true) where
   unfolding stored-cipher
   length-cipher = length-part half (head-length + open-length half) (secret-length half) (omega (arith, facts .fits))
 
-  length-secret : length (encrypted key nonce (stored-cipher half)) ≡ secret-length half
+  pub length-secret : length (encrypted key nonce (stored-cipher half)) ≡ secret-length half
   length-secret = length-encrypted key nonce (stored-cipher half) ∙ length-cipher
 
   length-previous : length (stored-previous half) ≡ tag-length

@@ -3,3 +3,4 @@ pub mod fram;
 pub mod half;
 pub mod layout;
 pub mod staging;
+pub mod under;

@@ -8,11 +8,10 @@ use native.Mathlib.Omega.{arith}
 use borrow.Author.Tests.{eqb-true, ltb-false}
 use lib.Dec.{eqb, ltb}
 use lib.ListN.{length}
-use Rattle.octets.specs.Octets.{same}
+use Rattle.octets.specs.Limits.{key-length, nonce-length, text-limit}
 use Rattle.stops.specs.Stops.{first-of, then-stop}
 use Rattle.stops.proofs.Laws.{tried, tried-first, first-append, passes, neither}
-use Rattle.gcm.specs.Gcm.{tag}
-use Rattle.gcm.specs.Calls.{key-wrong, nonce-wrong, tag-wrong, buffers-wrong, seal-stop, open-length-stop, open-stop}
+use Rattle.gcm.specs.Calls.{key-wrong, nonce-wrong, tag-wrong, buffers-wrong, seal-stop, open-length-rows, tag-row, open-length-stop, open-stop}
 
 -- two conditions tried one after the other
 pub two-tried : (m n : ℕ) (a b : Bool) {o p : Option ℕ} → o ≡ then-stop none m a → p ≡ then-stop o n b → p ≡ first-of ((m, a) ∷ (n, b) ∷ [])
@@ -21,10 +20,10 @@ two-tried m n a b ho hp = hp ∙ ap (λ (q : Option ℕ). then-stop q n b) ho �
 
 -- lengths that pass
 pub record Fit (key nonce aad text out : ℕ) : Type 0 where
-  pub key-32 : key ≡ 32
-  pub nonce-12 : nonce ≡ 12
-  pub aad-fits : aad ≤ 65536
-  pub text-fits : text ≤ 65536
+  pub key-fits : key ≡ key-length
+  pub nonce-fits : nonce ≡ nonce-length
+  pub aad-fits : aad ≤ text-limit
+  pub text-fits : text ≤ text-limit
   pub out-holds : text ≤ out
 
 no-not : (b : Bool) → not b ≡ false → b ≡ true
@@ -33,13 +32,13 @@ no-not false e = let z : _≡_ {A = ℕ} 0 1 = cc in absurd (omega arith)
 
 fitting : (key nonce aad text out : ℕ) → key-wrong key ≡ false → nonce-wrong nonce ≡ false → buffers-wrong aad text out ≡ false → Fit key nonce aad text out
 fitting key nonce aad text out k n b =
-    let last = neither (ltb 65536 aad || ltb 65536 text) (ltb out text) b in
-    let first = neither (ltb 65536 aad) (ltb 65536 text) (last .0) in
+    let last = neither (ltb text-limit aad || ltb text-limit text) (ltb out text) b in
+    let first = neither (ltb text-limit aad) (ltb text-limit text) (last .0) in
     record {
-      key-32 = eqb-true key 32 (no-not (eqb key 32) k);
-      nonce-12 = eqb-true nonce 12 (no-not (eqb nonce 12) n);
-      aad-fits = ltb-false 65536 aad (first .0);
-      text-fits = ltb-false 65536 text (first .1);
+      key-fits = eqb-true key key-length (no-not (eqb key key-length) k);
+      nonce-fits = eqb-true nonce nonce-length (no-not (eqb nonce nonce-length) n);
+      aad-fits = ltb-false text-limit aad (first .0);
+      text-fits = ltb-false text-limit text (first .1);
       out-holds = ltb-false out text (last .1);
     }
 
@@ -54,17 +53,14 @@ module _ (key nonce aad text given out : ℕ) (e : open-length-stop key nonce aa
   pub open-fits : Fit key nonce aad text out
   unfolding open-length-stop
   open-fits =
-      let p = passes ((3, key-wrong key || nonce-wrong nonce || tag-wrong given) ∷ (4, buffers-wrong aad text out) ∷ []) e in
+      let p = passes (open-length-rows key nonce aad text given out) e in
       let q = neither (key-wrong key || nonce-wrong nonce) (tag-wrong given) (p .0) in
       let r = neither (key-wrong key) (nonce-wrong nonce) (q .0) in
       fitting key nonce aad text out (r .0) (r .1) (p .1 .0)
 
 -- the tag is looked at where the lengths pass
 pub open-stop-is : (key nonce aad text given out : List ℕ) {o : Option ℕ} → open-length-stop (length key) (length nonce) (length aad) (length text) (length given) (length out) ≡ o
-    → open-stop key nonce aad text given out ≡ tried o ((12, not (same given (tag key nonce aad text))) ∷ [])
+    → open-stop key nonce aad text given out ≡ tried o (tag-row key nonce aad text given)
 unfolding open-length-stop open-stop
 open-stop-is key nonce aad text given out e =
-    first-append
-    ((3, key-wrong (length key) || nonce-wrong (length nonce) || tag-wrong (length given)) ∷ (4, buffers-wrong (length aad) (length text) (length out)) ∷ [])
-    ((12, not (same given (tag key nonce aad text))) ∷ [])
-    e
+    first-append (open-length-rows (length key) (length nonce) (length aad) (length text) (length given) (length out)) (tag-row key nonce aad text given) e

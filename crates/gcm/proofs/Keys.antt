@@ -5,6 +5,7 @@ use Prim.Native.Nat.{ℕ, _+_, _/_}
 use native.Mathlib.Omega.{arith}
 use lib.ListN.{length, take, drop}
 use lib.Seq.{take-at}
+use Rattle.octets.specs.Limits.{key-length}
 use Rattle.octets.specs.Octets.{put}
 use Rattle.octets.proofs.Laws.{put-front}
 use Rattle.aes.specs.Key.{KeyLength, round-keys}
@@ -13,11 +14,11 @@ use Rattle.aes.proofs.Whole.{aes-is}
 use Rattle.gcm.specs.Gcm.{AE-text, AE-tag, encrypted, tag}
 use Rattle.gcm.proofs.Laws.{length-encrypted}
 
-pub key-length : (n : ℕ) → n ≡ 32 → KeyLength n
-key-length n e = record { at-least = omega arith; at-most = omega arith; whole = omega arith }
+pub whole-key : (n : ℕ) → n ≡ key-length → KeyLength n
+whole-key n e = record { at-least = omega arith; at-most = omega arith; whole = omega arith }
 
 module _ (key w : List ℕ) (rounds : ℕ) (long : KeyLength (length key)) (made : w ≡ round-keys key) (many : rounds ≡ length key / 4 + 6) where
-  under : cipher rounds w ≡ aes key
+  pub under : cipher rounds w ≡ aes key
   under = λ i block. (ap₂ (λ (n : ℕ) (x : List ℕ). cipher n x block) many made ∙ aes-is key block long) i
 
   pub text-is : (nonce text : List ℕ) → AE-text (cipher rounds w) nonce text ≡ encrypted key nonce text

@@ -9,6 +9,7 @@ use native.Mathlib.Omega.{arith}
 use borrow.Author.Tests.{eq-eqb, le-ltb}
 use lib.ListN.{length, take, drop}
 use lib.Seq.{take-at}
+use Rattle.octets.specs.Limits.{tag-length}
 use Rattle.octets.specs.Octets.{put, same}
 use Rattle.octets.proofs.Laws.{same-refl, same-equal, equal-same, put-front}
 use Rattle.stops.specs.Stops.{first-of}
@@ -53,10 +54,10 @@ module _ (key nonce aad text given out : List ℕ) (fits : open-length-stop (len
       same-equal given (tag key nonce aad text)
       (stop-of (same given (tag key nonce aad text)) (sym (ap (λ (r : Opening). r .stop) (judged (same given (tag key nonce aad text)) refl)) ∙ e))
 
-fitting : (key nonce aad text given out : ℕ) → Fit key nonce aad text out → given ≡ 16 → open-length-stop key nonce aad text given out ≡ none
+fitting : (key nonce aad text given out : ℕ) → Fit key nonce aad text out → given ≡ tag-length → open-length-stop key nonce aad text given out ≡ none
 unfolding open-length-stop first-of
 fitting key nonce aad text given out f e =
-    simp (eq-eqb _ _ (f .key-32), eq-eqb _ _ (f .nonce-12), eq-eqb _ _ e, le-ltb _ _ (f .aad-fits), le-ltb _ _ (f .text-fits), le-ltb _ _ (f .out-holds))
+    simp (eq-eqb _ _ (f .key-fits), eq-eqb _ _ (f .nonce-fits), eq-eqb _ _ e, le-ltb _ _ (f .aad-fits), le-ltb _ _ (f .text-fits), le-ltb _ _ (f .out-holds))
 
 -- what a call sealed, opened with the tag that it answered, is the text again, in any output that holds it
 pub sealed-opened : (key nonce aad text out back : List ℕ) → seal-stop (length key) (length nonce) (length aad) (length text) (length out) ≡ none → length text ≤ length back
@@ -68,7 +69,7 @@ sealed-opened key nonce aad text out back e room =
     let long : length C ≡ length text = length-encrypted key nonce text in
     let f = seal-fits (length key) (length nonce) (length aad) (length text) (length out) e in
     let f′ : Fit (length key) (length nonce) (length aad) (length C) (length back) =
-    record { key-32 = f .key-32; nonce-12 = f .nonce-12; aad-fits = f .aad-fits; text-fits = omega arith; out-holds = omega arith } in
+    record { key-fits = f .key-fits; nonce-fits = f .nonce-fits; aad-fits = f .aad-fits; text-fits = omega arith; out-holds = omega arith } in
     let front : take (length text) (put out 0 C) ≡ C = ap (take (length text)) (put-front out C) ∙ take-at C (drop (length C) out) (length text) long in
     ap (λ (o : Option ℕ). let s = sealing-at o key nonce aad text out in opening key nonce aad (take (length text) (s .out)) (s .tag) back) e
     ∙ ap (λ (c : List ℕ). opening key nonce aad c T back) front

@@ -1,6 +1,6 @@
 -- Sealing and opening, offered alone: document 01, "The cipher", and of its stops the rows 3, 4 and 12.
 use mathlib.Core.Bool.{Bool, not, _||_}
-use mathlib.Core.List.{List, [], _∷_}
+use mathlib.Core.List.{List, [], _∷_, _++_}
 use mathlib.Core.Option.{Option, none, some}
 use Prim.Native.Nat.{ℕ}
 use lib.Dec.{eqb, ltb}
@@ -50,17 +50,20 @@ sealing key nonce aad text out = sealing-at (seal-stop (length key) (length nonc
 
 -- ---- opening
 
--- the first two rows, which look at lengths alone
+-- the rows that look at lengths alone, and where these pass the tag's
+abbrev pub open-length-rows : (key nonce aad text given out : ℕ) → List (ℕ × Bool)
+open-length-rows key nonce aad text given out = (3, key-wrong key || nonce-wrong nonce || tag-wrong given) ∷ (4, buffers-wrong aad text out) ∷ []
+
+abbrev pub tag-row : (key nonce aad text given : List ℕ) → List (ℕ × Bool)
+tag-row key nonce aad text given = (12, not (same given (tag key nonce aad text))) ∷ []
+
 unfoldable pub open-length-stop : (key nonce aad text given out : ℕ) → Option ℕ
-open-length-stop key nonce aad text given out = first-of ((3, key-wrong key || nonce-wrong nonce || tag-wrong given) ∷ (4, buffers-wrong aad text out) ∷ [])
+open-length-stop key nonce aad text given out = first-of (open-length-rows key nonce aad text given out)
 
 unfoldable pub open-stop : (key nonce aad text given out : List ℕ) → Option ℕ
 open-stop key nonce aad text given out =
     first-of
-    ((3, key-wrong (length key) || nonce-wrong (length nonce) || tag-wrong (length given))
-    ∷ (4, buffers-wrong (length aad) (length text) (length out))
-    ∷ (12, not (same given (tag key nonce aad text)))
-    ∷ [])
+    (open-length-rows (length key) (length nonce) (length aad) (length text) (length given) (length out) ++ tag-row key nonce aad text given)
 
 -- what an opening answers, and what the output holds afterwards
 pub record Opening : Type 0 where

@@ -7,6 +7,7 @@ ghost use mathlib.Core.Path.{_≡_};
 ghost use mathlib.Core.List.{_++_};
 ghost use Prim.Native.Nat.{_+_, _<_, _≤_, min};
 ghost use lib.ListN.{length};
+ghost use Rattle.octets.specs.Limits.{nonce-length};
 ghost use Rattle.octets.specs.Octets.{put, bytes};
 ghost use Rattle.aes.specs.Word.{RoundTable};
 ghost use Rattle.aes.specs.Cipher.{cipher};
@@ -19,7 +20,7 @@ const TEXT_COUNT: u32 = 2;
 
 // The counter block of a nonce and a count.
 pub fn counter_block(nonce: &[u8], count: u32) -> [u8; 16]
-    requires { ⌜ length (now nonce) ≡ 12 ⌝ }
+    requires { ⌜ length (now nonce) ≡ nonce-length ⌝ }
     ensures { λ r. ⌜ r ≡ now (nonce .entry) ++ bytes 4 count ⌝ }
 {
     let mut block = [0u8; 16];
@@ -91,7 +92,7 @@ pub fn encrypt(
     text: &[u8],
     out: &mut [u8],
 )
-    requires { ⌜ RoundTable (now table) × (0 < rounds) × (rounds < 15) × (length (now nonce) ≡ 12) × (length (now text) ≤ length (now out)) ⌝ }
+    requires { ⌜ RoundTable (now table) × (0 < rounds) × (rounds < 15) × (length (now nonce) ≡ nonce-length) × (length (now text) ≤ length (now out)) ⌝ }
     ensures { λ _. ⌜ now (out .exit) ≡ put (now (out .entry)) 0 (AE-text (cipher rounds (now (keys .entry))) (now (nonce .entry)) (now (text .entry))) ⌝ }
 {
     gctr(

@@ -77,7 +77,7 @@ pub fn hash(t: &[u64; 256], y: Block, s: &[u8]) -> Block
     z
 }
 
-// GHASH of associated data, encrypted text and their lengths in bits.
+// GHASH of associated data, encrypted text and their lengths in bits, each of which fits a word.
 pub fn ghash(t: &[u64; 256], aad: &[u8], cipher: &[u8]) -> Block
     requires { ⌜ (length (now aad) < 2 ^ 60) × (length (now cipher) < 2 ^ 60) ⌝ }
     ensures { λ r. ⌜ ((H : ℕ) → Steps H (now (t .entry)) → value r ≡ GHASH H (hash-input (now (aad .entry)) (now (cipher .entry)))) ⌝ }

@@ -89,7 +89,7 @@ fn open_length_check(
         .stop_if(buffers_wrong(aad, text, out), Stop::BufferSize)
 }
 
-// Seals where the lengths are right.
+// Seals where the lengths are right. Round keys and steps are overwritten in the end, as far as the compiler keeps it.
 fn seal_checked(key: &[u8], nonce: &[u8], aad: &[u8], text: &[u8], out: &mut [u8]) -> [u8; 16]
     requires { ⌜ seal-stop (length (now key)) (length (now nonce)) (length (now aad)) (length (now text)) (length (now out)) ≡ none ⌝ }
     ensures { λ r. ⌜ (r ≡ tag (now (key .entry)) (now (nonce .entry)) (now (aad .entry)) (encrypted (now (key .entry)) (now (nonce .entry)) (now (text .entry)))) × (now (out .exit) ≡ put (now (out .entry)) 0 (encrypted (now (key .entry)) (now (nonce .entry)) (now (text .entry)))) ⌝ }
@@ -129,7 +129,8 @@ pub fn seal(key: &[u8], nonce: &[u8], aad: &[u8], text: &[u8], out: &mut [u8]) -
     }
 }
 
-// Opens where the lengths are right. The tag is compared whole before anything is written.
+// Opens where the lengths are right. The tag is compared whole before anything is written. Round keys and steps are overwritten as in
+// seal_checked.
 fn open_checked(
     key: &[u8],
     nonce: &[u8],

@@ -11,6 +11,7 @@ use octets::fill;
 ghost use mathlib.Core.Path.{_≡_};
 ghost use Prim.Native.Nat.{_^_, _<_};
 ghost use lib.ListN.{length, replicate};
+ghost use Rattle.octets.specs.Limits.{nonce-length};
 ghost use Rattle.aes.specs.Word.{RoundTable};
 ghost use Rattle.aes.specs.Cipher.{cipher};
 ghost use Rattle.gcm.specs.Gcm.{hash-subkey, AE-tag};
@@ -28,7 +29,7 @@ pub fn hash_steps(table: &[u32; 256], keys: &[u8; 240], rounds: usize) -> [u64; 
     t
 }
 
-// The tag. It needs what hash_steps needs, and the steps that it made.
+// The tag. It needs what hash_steps needs, the steps that it made, and lengths whose number of bits fits a word of 64.
 pub fn tag_of(
     table: &[u32; 256],
     keys: &[u8; 240],
@@ -38,7 +39,7 @@ pub fn tag_of(
     aad: &[u8],
     encrypted: &[u8],
 ) -> [u8; 16]
-    requires { ⌜ RoundTable (now table) × (0 < rounds) × (rounds < 15) × Steps (hash-subkey (cipher rounds (now keys))) (now steps) × (length (now nonce) ≡ 12) × (length (now aad) < 2 ^ 60) × (length (now encrypted) < 2 ^ 60) ⌝ }
+    requires { ⌜ RoundTable (now table) × (0 < rounds) × (rounds < 15) × Steps (hash-subkey (cipher rounds (now keys))) (now steps) × (length (now nonce) ≡ nonce-length) × (length (now aad) < 2 ^ 60) × (length (now encrypted) < 2 ^ 60) ⌝ }
     ensures { λ r. ⌜ r ≡ AE-tag (cipher rounds (now (keys .entry))) (now (nonce .entry)) (now (aad .entry)) (now (encrypted .entry)) ⌝ }
 {
     let s = block_bytes(ghash(steps, aad, encrypted));
@@ -54,7 +55,7 @@ pub fn tag_of(
     t
 }
 
-// Overwrites the steps, once they are not needed any more.
+// Overwrites the steps, once they are not needed any more. A compiler that sees that nobody reads them again may leave it out.
 pub fn wipe_steps(steps: &mut [u64])
     ensures { λ _. ⌜ now (steps .exit) ≡ replicate (length (now (steps .entry))) 0 ⌝ }
 {

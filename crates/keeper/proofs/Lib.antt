@@ -1,3 +1,7 @@
 -- Laws of the views and of the operations' conditions.
 pub mod ViewLaws
 pub mod AdvanceLaws
+pub mod LookLaws
+pub mod SaveLaws
+pub mod ResumeLaws
+pub mod PowerUpLaws

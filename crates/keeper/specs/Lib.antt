@@ -1,2 +1,5 @@
 -- What the code's values stand for.
 pub mod View
+pub mod Stages
+pub mod Seen
+pub mod Resealing

@@ -3,11 +3,18 @@ mod advance;
 mod buffers;
 mod job;
 mod lent;
+mod looking;
 mod memories;
+mod resuming;
+mod saves;
 mod types;
 
 pub use buffers::wipe;
 pub use lent::advance_lent;
+pub use looking::look;
+pub use looking::open_part;
+pub use resuming::power_up;
+pub use saves::first_save;
 pub use types::Advanced;
 pub use types::Job;
 pub use types::Looked;

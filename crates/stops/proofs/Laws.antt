@@ -40,6 +40,15 @@ first-append xs ys e = sym (tried-first (xs ++ ys)) ∙ split none xs ∙ ap (λ
     split o [] = refl
     split o (x ∷ xs) = split (then-stop o (x .0) (x .1)) xs
 
+-- no condition yet, and one condition more, tried behind a list
+pub no-lines : none ≡ first-of []
+unfolding first-of
+no-lines = refl
+
+pub one-more : (xs : List (ℕ × Bool)) (n : ℕ) (W w : Bool) (o o′ : Option ℕ) → o ≡ first-of xs → w ≡ W → o′ ≡ then-stop o n w → o′ ≡ first-of (xs ++ ((n, W) ∷ []))
+unfolding tried
+one-more xs n W w o o′ e x f = f ∙ (λ i. then-stop (e i) n (x i)) ∙ sym (first-append xs ((n, W) ∷ []) refl)
+
 -- none of the conditions holds
 abbrev pub Passes : List (ℕ × Bool) → Type 0
 Passes [] = Unit {0}

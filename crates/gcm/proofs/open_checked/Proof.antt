@@ -8,7 +8,7 @@ use lib.ListN.{length}
 use Rattle.octets.specs.Octets.{put, same}
 use Rattle.gcm.specs.Gcm.{encrypted}
 use Rattle.gcm.proofs.Checks.{Fit, open-fits}
-use Rattle.gcm.proofs.Keys.{key-length, text-written, tag-is}
+use Rattle.gcm.proofs.Keys.{whole-key, text-written, tag-is}
 use Rattle.gcm.proofs.Outcomes.{opened}
 use Rattle.gcm.proofs.open_checked.Statement.{statement}
 use Rattle.gcm.proofs.open_checked.Tie as tie
@@ -22,7 +22,7 @@ fit-at : (c : tie.After-round-table) →
 fit-at c = let s = start c in open-fits _ _ _ _ (length (s .args .given .now)) _ (s .pre)
 
 expand-key-requires : tie.Need-expand-key-requires
-expand-key-requires c κs = key-length _ (fit-at c .key-32)
+expand-key-requires c κs = whole-key _ (fit-at c .key-fits)
 
 hash-steps-requires : tie.Need-hash-steps-requires
 hash-steps-requires c κs =
@@ -35,7 +35,7 @@ tag-of-requires c κs =
     let hashed = c .before .before .before in
     let made = hashed .before .before .before .before in
     let f = fit-at made in
-    (made .round-table .ensures, omega arith, omega arith, hashed .hash-steps .ensures, f .nonce-12, omega arith, omega arith)
+    (made .round-table .ensures, omega arith, omega arith, hashed .hash-steps .ensures, f .nonce-fits, omega arith, omega arith)
 
 -- from the comparison back to the table
 abbrev table-at : tie.After-same → tie.After-round-table
@@ -45,7 +45,7 @@ encrypt-requires : tie.Need-encrypt-requires
 encrypt-requires c κs =
     let made = table-at (c .before .before .before .before) in
     let f = fit-at made in
-    (made .round-table .ensures, omega arith, omega arith, f .nonce-12, f .out-holds)
+    (made .round-table .ensures, omega arith, omega arith, f .nonce-fits, f .out-holds)
 
 -- what the output holds where the ways of the branch meet
 out-at : (c : tie.Joined1) →
@@ -56,7 +56,7 @@ out-at c =
     let a = start made .args in
     let expanded = c .before .before .before .before .before .before .before .before .before .before in
     ⊎-elim
-    (λ w. inl (w .0 .taken, text-written (a .key .now) _ _ (key-length _ (fit-at made .key-32)) (expanded .expand-key .ensures) refl (a .nonce .now) (a .text .now) (a .out .now) _ (w .7 ∙ w .4 .ensures)))
+    (λ w. inl (w .0 .taken, text-written (a .key .now) _ _ (whole-key _ (fit-at made .key-fits)) (expanded .expand-key .ensures) refl (a .nonce .now) (a .text .now) (a .out .now) _ (w .7 ∙ w .4 .ensures)))
     (λ w. inr (w .0 .left, w .1))
     (c .if1 .came)
 
@@ -72,7 +72,7 @@ returns c =
     let made = expanded .before in
     let s = start made in
     let a = s .args in
-    let right = tagged .tag-of .ensures ∙ tag-is (a .key .now) _ _ (key-length _ (fit-at made .key-32)) (expanded .expand-key .ensures) refl (a .nonce .now) (a .aad .now) (a .text .now) in
+    let right = tagged .tag-of .ensures ∙ tag-is (a .key .now) _ _ (whole-key _ (fit-at made .key-fits)) (expanded .expand-key .ensures) refl (a .nonce .now) (a .aad .now) (a .text .now) in
     opened (a .key .now) (a .nonce .now) (a .aad .now) (a .text .now) (a .given .now) (a .out .now) (compared .same .result) _ (joined .if1 .out) (s .pre) (compared .same .ensures ∙ ap (same (a .given .now)) right) (c .stop-if .ensures) (out-at joined)
 
 pub open-checked-spec : {M : Type 1} → statement M

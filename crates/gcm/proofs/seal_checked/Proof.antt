@@ -5,7 +5,7 @@ use borrow.Author.Needs.{needs}
 use lib.ListN.{length}
 use lib.Seq.{length-take-le}
 use Rattle.gcm.proofs.Checks.{Fit, seal-fits}
-use Rattle.gcm.proofs.Keys.{key-length, text-written, tag-written}
+use Rattle.gcm.proofs.Keys.{whole-key, text-written, tag-written}
 use Rattle.gcm.proofs.seal_checked.Statement.{statement}
 use Rattle.gcm.proofs.seal_checked.Tie as tie
 
@@ -18,7 +18,7 @@ fit-at : (c : tie.After-round-table) →
 fit-at c = seal-fits _ _ _ _ _ (start c .pre)
 
 expand-key-requires : tie.Need-expand-key-requires
-expand-key-requires c κs = key-length _ (fit-at c .key-32)
+expand-key-requires c κs = whole-key _ (fit-at c .key-fits)
 
 hash-steps-requires : tie.Need-hash-steps-requires
 hash-steps-requires c κs =
@@ -30,7 +30,7 @@ encrypt-requires : tie.Need-encrypt-requires
 encrypt-requires c κs =
     let made = c .before .before .before .before .before .before .before in
     let f = fit-at made in
-    (made .round-table .ensures, omega arith, omega arith, f .nonce-12, f .out-holds)
+    (made .round-table .ensures, omega arith, omega arith, f .nonce-fits, f .out-holds)
 
 slice-reshare-prefix-tag-of : tie.Need-slice-reshare-prefix-tag-of
 slice-reshare-prefix-tag-of c =
@@ -48,7 +48,7 @@ tag-of-requires c κs =
     let made = hashed .before .before .before .before in
     let f = fit-at made in
     let taken = slice-aggregate-tag-of c in
-    (made .round-table .ensures, omega arith, omega arith, hashed .hash-steps .ensures, f .nonce-12, omega arith, omega arith)
+    (made .round-table .ensures, omega arith, omega arith, hashed .hash-steps .ensures, f .nonce-fits, omega arith, omega arith)
 
 returns : tie.Need-returns
 returns c =
@@ -57,7 +57,7 @@ returns c =
     let expanded = written .before .before .before .before .before .before .before in
     let f = fit-at (expanded .before) in
     let a = start (expanded .before) .args in
-    let key = key-length _ (f .key-32) in
+    let key = whole-key _ (f .key-fits) in
     let keys = expanded .expand-key .ensures in (
       tag-written (a .key .now) _ _ key keys refl (a .nonce .now) (a .aad .now) (a .text .now) (a .out .now) _ _ (written .encrypt .ensures) (tagged .tag-of .ensures),
       text-written (a .key .now) _ _ key keys refl (a .nonce .now) (a .text .now) (a .out .now) _ (written .encrypt .ensures),

@@ -1,0 +1,139 @@
+-- The stops of power-up, stage by stage, and what it answers. Assumes nothing.
+use Prim.Native.Nat.{ℕ, _-_, _<_, _≤_}
+use mathlib.Core.Path.{_≡_, _∙_}
+use mathlib.Core.Bool.{Bool, true, false, not, _||_}
+use mathlib.Core.Option.{Option, none, some}
+use mathlib.Core.List.{List, [], _∷_, _++_}
+use native.Mathlib.Omega.{arith}
+use lib.Dec.{ltb}
+use lib.ListN.{length, take}
+use borrow.Author.Tests.{eqb-true, ltb-false, not-false}
+use Rattle.octets.specs.Limits.{key-length, nonce-length, part-limit}
+use Rattle.stops.specs.Stops.{first-of, then-stop}
+use Rattle.stops.proofs.Laws.{tried, tried-first, first-append, no-lines, one-more, passes, neither}
+use Rattle.ring.specs.Ring.{Newest, ring-wrong, read-ring, is-blank, is-unreadable, nonce-used, newest-record, half-named, target-page, target-slot}
+use Rattle.ring.proofs.NewestLaws.{newest-half-fits}
+use Rattle.checkpoint.specs.Checkpoint.{empty-length}
+use Rattle.checkpoint.specs.Fram.{fram-wrong, half-length}
+use Rattle.checkpoint.specs.Half.{good-head, stored-length, stored}
+use Rattle.checkpoint.proofs.FramLaws.{fram-sizes}
+use Rattle.checkpoint.proofs.StoredLaws.{head-facts}
+use Rattle.protocol.specs.Types.{Phase, PowerUp}
+use Rattle.protocol.specs.Calls.{PowersUp}
+use Rattle.protocol.specs.Operations.{key-wrong, nonce-wrong, staging-wrong, state-wrong, Begin, begin, job-of, resumed, first-phase, newest-half, newest-checkpoint, power-up-stop, power-up}
+use Rattle.keeper.specs.Stages.{stopped, power-up-buffers, power-up-ring, half-lines}
+
+-- ---- conditions tried one after the other
+
+pub buffers-tried : (ring fram : List ℕ) (a : PowersUp) (c d : Bool) (o₂ o₃ o₄ : Option ℕ)
+    → o₂ ≡ first-of ((1, ring-wrong (a .sizes .pages) (a .sizes .slots) ring) ∷ (2, fram-wrong fram) ∷ [])
+    → c ≡ key-wrong (length (a .key)) || nonce-wrong (length (a .nonce)) → d ≡ staging-wrong (a .staging) fram || state-wrong (a .state)
+    → o₃ ≡ then-stop o₂ 3 c → o₄ ≡ then-stop o₃ 4 d → o₄ ≡ first-of (power-up-buffers ring fram a)
+buffers-tried ring fram a c d o₂ o₃ o₄ e x y f g = one-more (_ ∷ _ ∷ _ ∷ []) 4 _ d o₃ o₄ (one-more (_ ∷ _ ∷ []) 3 _ c o₂ o₃ e x f) y g
+
+pub ring-tried : (ring : List ℕ) (slots : ℕ) (n : Newest) (nonce : List ℕ) (b u x : Bool) (o₁ o₂ o₃ : Option ℕ) → b ≡ is-blank n → u ≡ is-unreadable n → x ≡ nonce-used ring slots n nonce
+    → o₁ ≡ then-stop none 6 b → o₂ ≡ then-stop o₁ 7 u → o₃ ≡ then-stop o₂ 10 x → o₃ ≡ first-of (power-up-ring ring slots n nonce)
+ring-tried ring slots n nonce b u x o₁ o₂ o₃ eb eu ex f g h =
+    one-more (_ ∷ _ ∷ []) 10 _ x o₂ o₃ (one-more (_ ∷ []) 7 _ u o₁ o₂ (one-more [] 6 _ b none o₁ no-lines eb f) eu g) ex h
+
+-- ---- what holds where the buffers pass
+
+pub record Buffers (ring fram : List ℕ) (a : PowersUp) : Type 0 where
+  pub ring-right : ring-wrong (a .sizes .pages) (a .sizes .slots) ring ≡ false
+  pub fram-right : fram-wrong fram ≡ false
+  pub key : length (a .key) ≡ key-length
+  pub nonce : length (a .nonce) ≡ nonce-length
+  pub staging : half-length fram ≤ length (a .staging)
+  pub state : part-limit ≤ length (a .state)
+
+pub buffers-pass : (ring fram : List ℕ) (a : PowersUp) → first-of (power-up-buffers ring fram a) ≡ none → Buffers ring fram a
+unfolding staging-wrong state-wrong
+buffers-pass ring fram a e =
+    let p = passes _ e in
+    let k = neither (key-wrong (length (a .key))) (nonce-wrong (length (a .nonce))) (p .1 .1 .0) in
+    let s = neither (ltb (length (a .staging)) (half-length fram)) (ltb (length (a .state)) part-limit) (p .1 .1 .1 .0) in
+    record {
+      ring-right = p .0;
+      fram-right = p .1 .0;
+      key = eqb-true (length (a .key)) key-length (not-false _ (k .0));
+      nonce = eqb-true (length (a .nonce)) nonce-length (not-false _ (k .1));
+      staging = ltb-false (length (a .staging)) (half-length fram) (s .0);
+      state = ltb-false (length (a .state)) part-limit (s .1);
+    }
+
+-- ---- stage by stage
+
+module _ (ring fram : List ℕ) (a : PowersUp) where
+  abbrev read : Newest
+  read = read-ring ring (a .sizes .pages) (a .sizes .slots)
+
+  abbrev newest : List ℕ
+  newest = newest-record ring (a .sizes .slots) read
+
+  abbrev half : List ℕ
+  half = newest-half ring fram (a .sizes .slots) read
+
+  abbrev latest : List ℕ
+  latest = take nonce-length newest
+
+  abbrev ring-lines : List (ℕ × Bool)
+  ring-lines = power-up-ring ring (a .sizes .slots) read (a .nonce)
+
+  abbrev head-line : List (ℕ × Bool)
+  head-line = (11, not (good-head half)) ∷ []
+
+  abbrev rest-lines : List (ℕ × Bool)
+  rest-lines = half-lines (a .key) latest half
+
+  pub buffers-stop : {s : ℕ} → first-of (power-up-buffers ring fram a) ≡ some s → power-up-stop ring fram a ≡ some s
+  unfolding power-up-stop tried
+  buffers-stop e = first-append (power-up-buffers ring fram a) (ring-lines ++ (head-line ++ rest-lines)) e
+
+  on-ring : first-of (power-up-buffers ring fram a) ≡ none → power-up-stop ring fram a ≡ first-of (ring-lines ++ (head-line ++ rest-lines))
+  unfolding power-up-stop
+  on-ring e = first-append (power-up-buffers ring fram a) (ring-lines ++ (head-line ++ rest-lines)) e ∙ tried-first (ring-lines ++ (head-line ++ rest-lines))
+
+  pub ring-stop : {s : ℕ} → first-of (power-up-buffers ring fram a) ≡ none → first-of ring-lines ≡ some s → power-up-stop ring fram a ≡ some s
+  unfolding tried
+  ring-stop e f = on-ring e ∙ first-append ring-lines (head-line ++ rest-lines) f
+
+  on-head : first-of (power-up-buffers ring fram a) ≡ none → first-of ring-lines ≡ none → power-up-stop ring fram a ≡ first-of (head-line ++ rest-lines)
+  on-head e f = on-ring e ∙ first-append ring-lines (head-line ++ rest-lines) f ∙ tried-first (head-line ++ rest-lines)
+
+  pub head-stop : first-of (power-up-buffers ring fram a) ≡ none → first-of ring-lines ≡ none → good-head half ≡ false → power-up-stop ring fram a ≡ some 11
+  unfolding first-of
+  head-stop e f g = on-head e f ∙ rw g
+
+  pub on-half : first-of (power-up-buffers ring fram a) ≡ none → first-of ring-lines ≡ none → good-head half ≡ true → power-up-stop ring fram a ≡ first-of rest-lines
+  unfolding first-of
+  on-half e f g = on-head e f ∙ rw g
+
+  -- the newest record names a half
+  pub names-half : ring-wrong (a .sizes .pages) (a .sizes .slots) ring ≡ false → first-of ring-lines ≡ none → half-named newest < 2
+  names-half w f = let p = passes _ f in newest-half-fits (a .sizes .pages) (a .sizes .slots) ring w (p .0) (p .1 .0)
+
+  -- ---- what it answers
+
+  pub power-up-stops : (r : Begin) {s : ℕ} → r ≡ stopped s (a .staging) (a .state) → power-up-stop ring fram a ≡ some s → r ≡ power-up ring fram a
+  unfolding power-up begin
+  power-up-stops r e f = rw f e
+
+  pub power-up-restores : (r : Begin) (l h : List ℕ) (phase : Phase) (other page slot : ℕ) → l ≡ latest → h ≡ half → phase ≡ first-phase read → other ≡ 1 - half-named newest
+      → page ≡ target-page (a .sizes .pages) (a .sizes .slots) read → slot ≡ target-slot (a .sizes .slots) read
+      → (let old = stored (a .key) l h in let new = resumed (a .key) (a .nonce) old in
+      r ≡ begin (first-of (half-lines (a .key) l h)) (a .key) new (job-of (a .key) new phase PowerUp other page slot) (a .staging) (a .state) (old .secret))
+      → power-up-stop ring fram a ≡ first-of rest-lines → r ≡ power-up ring fram a
+  unfolding power-up newest-checkpoint
+  power-up-restores r l h phase other page slot el eh ep eo eg es e f =
+      e ∙ (λ i. begin (first-of (half-lines (a .key) (el i) (eh i))) (a .key) (resumed (a .key) (a .nonce) (stored (a .key) (el i) (eh i)))
+      (job-of (a .key) (resumed (a .key) (a .nonce) (stored (a .key) (el i) (eh i))) (ep i) PowerUp (eo i) (eg i) (es i)) (a .staging) (a .state) (stored (a .key) (el i) (eh i) .secret))
+      ∙ rw f
+
+-- the half is long enough to have a head, and what it holds fits staging
+pub half-long-enough : (fram h : List ℕ) → fram-wrong fram ≡ false → length h ≡ half-length fram → empty-length ≤ length h
+unfolding half-length
+half-long-enough fram h w l = let z = fram-sizes fram w in omega (arith, l)
+
+pub fits-staging : (fram h staging : List ℕ) → good-head h ≡ true → length h ≡ half-length fram → half-length fram ≤ length staging → stored-length h ≤ length staging
+unfolding stored-length
+fits-staging fram h staging good l s = let f = head-facts h good .fits in omega (arith, l, s, f)

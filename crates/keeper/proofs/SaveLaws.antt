@@ -1,0 +1,129 @@
+-- The stops of first save and save, stage by stage, and what they answer. Assumes nothing.
+use Prim.Native.Nat.{ℕ, _-_, _%_, _≤_}
+use mathlib.Core.Path.{_≡_, ap, _∙_}
+use mathlib.Core.Bool.{Bool, false, not, _||_}
+use mathlib.Core.Option.{Option, none, some}
+use mathlib.Core.List.{List, [], _∷_}
+use native.Mathlib.Omega.{arith}
+use lib.Dec.{eqb, ltb}
+use lib.ListN.{length}
+use borrow.Author.Tests.{eqb-true, ltb-false, not-false}
+use Rattle.octets.specs.Limits.{key-length, nonce-length, part-limit, tag-length}
+use Rattle.octets.specs.Octets.{blank}
+use Rattle.stops.specs.Stops.{first-of, then-stop}
+use Rattle.stops.proofs.Laws.{tried, tried-first, first-append, one-more, passes, neither}
+use Rattle.ring.specs.Ring.{Newest, ring-wrong, read-ring, newest-record, half-named, target-page, target-slot}
+use Rattle.checkpoint.specs.Checkpoint.{part-wrong, sealed-length}
+use Rattle.checkpoint.specs.Fram.{fram-wrong, half-length}
+use Rattle.checkpoint.specs.Prepared.{checkpoint-of}
+use Rattle.protocol.specs.Types.{Words, Save}
+use Rattle.protocol.specs.Calls.{SaveArguments, FirstSave, Saves}
+use Rattle.protocol.specs.Operations.{key-wrong, nonce-wrong, tag-wrong, parts-wrong, staging-wrong, Begin, begin, job-of, first-checkpoint, save-checkpoint, first-save-stop, first-save, save-stop, save}
+use Rattle.keeper.specs.Stages.{stopped, save-buffers, save-ring}
+
+-- ---- conditions tried one after the other
+
+pub buffers-tried : (ring fram : List ℕ) (a : SaveArguments) (c d : Bool) (o₂ o₃ o₄ : Option ℕ)
+    → o₂ ≡ first-of ((1, ring-wrong (a .sizes .pages) (a .sizes .slots) ring) ∷ (2, fram-wrong fram) ∷ [])
+    → c ≡ key-wrong (length (a .key)) || nonce-wrong (length (a .nonce)) → d ≡ parts-wrong (a .open-part) (a .secret) fram || staging-wrong (a .staging) fram
+    → o₃ ≡ then-stop o₂ 3 c → o₄ ≡ then-stop o₃ 4 d → o₄ ≡ first-of (save-buffers ring fram a)
+buffers-tried ring fram a c d o₂ o₃ o₄ e x y f g = one-more (_ ∷ _ ∷ _ ∷ []) 4 _ d o₃ o₄ (one-more (_ ∷ _ ∷ []) 3 _ c o₂ o₃ e x f) y g
+
+pub first-tried : (ring fram : List ℕ) (a : FirstSave) (c d b : Bool) (o₂ o₃ o₄ o₅ : Option ℕ)
+    → o₂ ≡ first-of ((1, ring-wrong (a .arguments .sizes .pages) (a .arguments .sizes .slots) ring) ∷ (2, fram-wrong fram) ∷ [])
+    → c ≡ key-wrong (length (a .arguments .key)) || nonce-wrong (length (a .arguments .nonce)) || tag-wrong (length (a .starting-tag))
+    → d ≡ parts-wrong (a .arguments .open-part) (a .arguments .secret) fram || staging-wrong (a .arguments .staging) fram → b ≡ blank ring
+    → o₃ ≡ then-stop o₂ 3 c → o₄ ≡ then-stop o₃ 4 d → o₅ ≡ then-stop o₄ 5 (not b) → o₅ ≡ first-save-stop ring fram a
+unfolding first-save-stop
+first-tried ring fram a c d b o₂ o₃ o₄ o₅ e x y z f g h =
+    one-more (_ ∷ _ ∷ _ ∷ _ ∷ []) 5 _ (not b) o₄ o₅ (one-more (_ ∷ _ ∷ _ ∷ []) 4 _ d o₃ o₄ (one-more (_ ∷ _ ∷ []) 3 _ c o₂ o₃ e x f) y g) (ap not z) h
+
+-- ---- what holds where the buffers pass
+
+pub record Lengths (fram : List ℕ) (a : SaveArguments) : Type 0 where
+  pub key : length (a .key) ≡ key-length
+  pub nonce : length (a .nonce) ≡ nonce-length
+  pub open-part : length (a .open-part) ≤ part-limit
+  pub secret : length (a .secret) ≤ part-limit
+  pub staging : sealed-length (length (a .open-part)) (length (a .secret)) ≤ length (a .staging)
+
+pub small : (p : List ℕ) → part-wrong p ≡ false → length p ≤ part-limit
+unfolding part-wrong
+small p e = ltb-false part-limit (length p) (neither (not (eqb (length p % 4) 0)) (ltb part-limit (length p)) e .1)
+
+lengths : (fram : List ℕ) (a : SaveArguments) → key-wrong (length (a .key)) ≡ false → nonce-wrong (length (a .nonce)) ≡ false
+    → parts-wrong (a .open-part) (a .secret) fram || staging-wrong (a .staging) fram ≡ false → Lengths fram a
+unfolding parts-wrong staging-wrong
+lengths fram a k n e =
+    let p = neither (parts-wrong (a .open-part) (a .secret) fram) (staging-wrong (a .staging) fram) e in
+    let q = neither (part-wrong (a .open-part) || part-wrong (a .secret)) (ltb (half-length fram) (sealed-length (length (a .open-part)) (length (a .secret)))) (p .0) in
+    let r = neither (part-wrong (a .open-part)) (part-wrong (a .secret)) (q .0) in
+    let fits = ltb-false (half-length fram) (sealed-length (length (a .open-part)) (length (a .secret))) (q .1) in
+    let long = ltb-false (length (a .staging)) (half-length fram) (p .1) in
+    record {
+      key = eqb-true (length (a .key)) key-length (not-false _ k);
+      nonce = eqb-true (length (a .nonce)) nonce-length (not-false _ n);
+      open-part = small (a .open-part) (r .0);
+      secret = small (a .secret) (r .1);
+      staging = omega (arith, fits, long);
+    }
+
+pub first-lengths : (ring fram : List ℕ) (a : FirstSave) → first-save-stop ring fram a ≡ none → Lengths fram (a .arguments) × (length (a .starting-tag) ≡ tag-length)
+unfolding first-save-stop
+first-lengths ring fram a e =
+    let p = passes _ e in
+    let k = neither (key-wrong (length (a .arguments .key)) || nonce-wrong (length (a .arguments .nonce))) (tag-wrong (length (a .starting-tag))) (p .1 .1 .0) in
+    let n = neither (key-wrong (length (a .arguments .key))) (nonce-wrong (length (a .arguments .nonce))) (k .0) in
+    (lengths fram (a .arguments) (n .0) (n .1) (p .1 .1 .1 .0), eqb-true (length (a .starting-tag)) tag-length (not-false _ (k .1)))
+
+pub record Buffers (ring fram : List ℕ) (a : SaveArguments) : Type 0 where
+  pub ring-right : ring-wrong (a .sizes .pages) (a .sizes .slots) ring ≡ false
+  pub lengths-right : Lengths fram a
+
+pub buffers-pass : (ring fram : List ℕ) (a : SaveArguments) → first-of (save-buffers ring fram a) ≡ none → Buffers ring fram a
+buffers-pass ring fram a e =
+    let p = passes _ e in
+    let n = neither (key-wrong (length (a .key))) (nonce-wrong (length (a .nonce))) (p .1 .1 .0) in
+    record { ring-right = p .0; lengths-right = lengths fram a (n .0) (n .1) (p .1 .1 .1 .0) }
+
+-- ---- what first save answers
+
+module _ (ring fram : List ℕ) (a : FirstSave) where
+  pub first-stops : (r : Begin) {s : ℕ} → r ≡ stopped s (a .arguments .staging) [] → first-save-stop ring fram a ≡ some s → r ≡ first-save ring fram a
+  unfolding first-save begin
+  first-stops r e f = rw f e
+
+  pub first-begins : (r : Begin) → (let c = checkpoint-of (a .arguments .open-part) (a .arguments .secret) 0 (a .starting-tag) (a .arguments .nonce) in
+      r ≡ begin none (a .arguments .key) c (job-of (a .arguments .key) c (Words 0) Save 0 0 0) (a .arguments .staging) [] []) → first-save-stop ring fram a ≡ none → r ≡ first-save ring fram a
+  unfolding first-save first-checkpoint
+  first-begins r e f = rw f e
+
+-- ---- and what save answers
+
+module _ (ring fram : List ℕ) (a : Saves) where
+  abbrev read : Newest
+  read = read-ring ring (a .arguments .sizes .pages) (a .arguments .sizes .slots)
+
+  abbrev pub ring-lines : List (ℕ × Bool)
+  ring-lines = save-ring ring (a .arguments .sizes .slots) read (a .session) (a .arguments .nonce)
+
+  pub buffers-stop : {s : ℕ} → first-of (save-buffers ring fram (a .arguments)) ≡ some s → save-stop ring fram a ≡ some s
+  unfolding save-stop tried
+  buffers-stop e = first-append (save-buffers ring fram (a .arguments)) ring-lines e
+
+  pub on-ring : first-of (save-buffers ring fram (a .arguments)) ≡ none → save-stop ring fram a ≡ first-of ring-lines
+  unfolding save-stop
+  on-ring e = first-append (save-buffers ring fram (a .arguments)) ring-lines e ∙ tried-first ring-lines
+
+  pub save-stops : (r : Begin) {s : ℕ} → r ≡ stopped s (a .arguments .staging) [] → save-stop ring fram a ≡ some s → r ≡ save ring fram a
+  unfolding save begin
+  save-stops r e f = rw f e
+
+  pub save-begins : (r : Begin) (half page slot : ℕ) → half ≡ 1 - half-named (newest-record ring (a .arguments .sizes .slots) read)
+      → page ≡ target-page (a .arguments .sizes .pages) (a .arguments .sizes .slots) read → slot ≡ target-slot (a .arguments .sizes .slots) read
+      → (let c = checkpoint-of (a .arguments .open-part) (a .arguments .secret) 0 (a .session .tag) (a .arguments .nonce) in
+      r ≡ begin none (a .arguments .key) c (job-of (a .arguments .key) c (Words 0) Save half page slot) (a .arguments .staging) [] []) → save-stop ring fram a ≡ none → r ≡ save ring fram a
+  unfolding save save-checkpoint
+  save-begins r half page slot x y z e f =
+      let c = checkpoint-of (a .arguments .open-part) (a .arguments .secret) 0 (a .session .tag) (a .arguments .nonce) in
+      e ∙ (λ i. begin none (a .arguments .key) c (job-of (a .arguments .key) c (Words 0) Save (x i) (y i) (z i)) (a .arguments .staging) [] []) ∙ rw f

@@ -1,0 +1,37 @@
+-- `keeper::resuming::reseal` meets its contract. Assumes nothing.
+use mathlib.Core.Path.{refl}
+use native.Mathlib.Omega.{arith}
+use borrow.Author.Needs.{needs}
+use Rattle.gcm.proofs.Keys.{whole-key, under}
+use Rattle.keeper.proofs.resuming.reseal.Statement.{statement}
+use Rattle.keeper.proofs.resuming.reseal.Tie as tie
+
+reseal-prepared-requires : tie.Need-reseal-prepared-requires
+reseal-prepared-requires c κs =
+    let s = c .before .before .before .before .before .before .before .before .before .before .before .before .before .before .before .before in
+    let long = s .pre .0 in
+    ((c .before .before .before .before .before .before .before .before .before .round-table .ensures, omega arith, omega arith, c .before .before .before .before .before .hash-steps .ensures), s .pre .1, s .pre .2, s .pre .3, s .pre .4, s .pre .5, s .pre .6)
+
+returns : tie.Need-returns
+returns c =
+    let expanded = c .before .before .before .before .before .before .before .before .before .before .before .before .before .before .before .before .before .before .before in
+    let s = expanded .before .before .before .before .before .before .before .before in
+    let key = s .args .key .now in
+    c .before .before .before .before .before .before .before .before .before .before .reseal-prepared .ensures key (under key _ _ (whole-key _ (s .pre .0)) (expanded .expand-key .ensures) refl)
+
+pub reseal-spec : {M : Type 1} → statement M
+reseal-spec =
+    tie.close
+    (tie.spec
+    (λ c. search needs)
+    (λ c κs. search needs)
+    (λ c κs. search needs)
+    (λ c κs. search needs)
+    reseal-prepared-requires
+    (λ c. search needs)
+    (λ c κs. search needs)
+    (λ c. search needs)
+    (λ c κs. search needs)
+    (λ c. search needs)
+    (λ c. search needs)
+    returns)

@@ -1,0 +1,58 @@
+-- `keeper::resuming::reseal_prepared` meets its contract. Assumes nothing.
+use mathlib.Core.Path.{_≡_, refl, sym, ap, _∙_}
+use mathlib.Core.List.{List}
+use Prim.Native.Nat.{ℕ}
+use borrow.Author.Needs.{needs}
+use Rattle.stops.specs.Stops.{first-of}
+use Rattle.stops.specs.View.{check-number}
+use Rattle.aes.specs.Cipher.{cipher, aes}
+use Rattle.keeper.specs.Stages.{half-lines}
+use Rattle.keeper.proofs.LookLaws.{stopped-not-none}
+use Rattle.keeper.proofs.ResumeLaws.{half-tried, tag-passes, restarts-below}
+use Rattle.keeper.proofs.resuming.reseal_prepared.Statement.{statement}
+use Rattle.keeper.proofs.resuming.reseal_prepared.Tie as tie
+
+abbrev start : tie.After-stop-if2 → tie.Start
+start c = c .before .before .before .before .before .before .before .before .before
+
+checked : (c : tie.After-stop-if2) (key : List ℕ) → (let a = start c .args in cipher (a .rounds) (a .keys .now) ≡ aes key)
+    → (let a = start c .args in check-number (c .stop-if2 .result) ≡ first-of (half-lines key (a .latest .now) (a .half .now)))
+checked c key e =
+    let a = start c .args in
+    half-tried key (a .latest .now) (a .half .now) _ _ _ _ (c .before .before .before .good-tag .ensures key e) (start c .pre .4 .restarts) (c .before .before .stop-if .ensures) (c .stop-if2 .ensures)
+
+good-tag-requires : tie.Need-good-tag-requires
+good-tag-requires c κs = let p = c .before .before .before .before .before .pre in (p .0, p .1, p .3, p .4 .open-part, p .4 .secret)
+
+reopen-requires : tie.Need-reopen-requires
+reopen-requires c κs =
+    let s = start (c .before .before .before .before) in
+    let p = s .pre in
+    let told = ap check-number (c .before .before .enum-told .given .1) in
+    (p .0, p .1, p .2, p .3, p .4, restarts-below (s .args .half .now) _ (check-number (c .before .before .before .before .before .before .stop-if .result)) (p .3) (p .4 .restarts) (sym (c .before .before .before .before .stop-if2 .ensures) ∙ told), p .5, p .6)
+
+returns : tie.Need-returns
+returns c key e =
+    record { check = sym (ap check-number (c .before .check .given .1)) ∙ checked (c .before .before .before) key e; stops = λ n. (refl, refl); begins = λ n. stopped-not-none n }
+
+returns-2 : tie.Need-returns-2
+returns-2 c key e =
+    let told = ap check-number (c .before .before .before .before .before .before .before .enum-told .given .1) in
+    let all = sym told ∙ checked (c .before .before .before .before .before .before .before .before .before) key e in
+    let a = start (c .before .before .before .before .before .before .before .before .before) .args in
+    record { check = all; stops = λ n. stopped-not-none (sym n); begins = λ n. c .before .before .before .before .reopen .ensures key e (tag-passes key (a .latest .now) (a .half .now) (sym all)) }
+
+pub reseal-prepared-spec : {M : Type 1} → statement M
+reseal-prepared-spec =
+    tie.close
+    (tie.spec
+    good-tag-requires
+    (λ c κs. search needs)
+    (λ c κs. search needs)
+    (λ c. search needs)
+    (λ c. search needs)
+    reopen-requires
+    returns
+    (λ c. search needs)
+    (λ c. search needs)
+    returns-2)

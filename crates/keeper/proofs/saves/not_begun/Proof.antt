@@ -1,0 +1,19 @@
+-- `keeper::saves::not_begun` meets its contract. Assumes nothing.
+use mathlib.Core.List.{[]}
+use borrow.Author.Needs.{needs}
+use Rattle.stops.specs.View.{stop-number}
+use Rattle.protocol.specs.Types.{Stopped}
+use Rattle.keeper.proofs.saves.not_begun.Statement.{statement}
+use Rattle.keeper.proofs.saves.not_begun.Tie as tie
+
+returns : tie.Need-returns
+returns c staging = λ i. record {
+  answer = Stopped (stop-number (c .before .args .stop));
+  job = c .no-job .ensures i;
+  secret-length = 0;
+  staging = staging;
+  state = [];
+}
+
+pub not-begun-spec : {M : Type 1} → statement M
+not-begun-spec = tie.close (tie.spec (λ c κs. search needs) returns)

@@ -1,0 +1,14 @@
+-- What sealing a half anew answers and leaves.
+use mathlib.Core.Path.{_≡_}
+use mathlib.Core.Option.{none, some}
+use mathlib.Core.List.{List}
+use Prim.Native.Nat.{ℕ}
+use Rattle.stops.specs.Stops.{first-of}
+use Rattle.stops.specs.View.{check-number}
+use Rattle.keeper.specs.declared.resuming.Resealed.{Resealed}
+use Rattle.keeper.specs.Stages.{half-lines, Reseals}
+
+pub record Outcome (key : List ℕ) (r : Resealed) (latest half nonce staging staging′ state state′ : List ℕ) : Type 0 where
+  pub check : check-number (r .check) ≡ first-of (half-lines key latest half)
+  pub stops : {s : ℕ} → check-number (r .check) ≡ some s → (staging′ ≡ staging) × (state′ ≡ state)
+  pub begins : check-number (r .check) ≡ none → Reseals key (r .tag) latest half nonce staging staging′ state state′

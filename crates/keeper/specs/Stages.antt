@@ -1,0 +1,73 @@
+-- The stops of the operations in the stages in which the code tries them (document 01, "Stops, by the place of checking").
+use Prim.Native.Nat.{ℕ}
+use mathlib.Core.Path.{_≡_}
+use mathlib.Core.Bool.{Bool, not, _||_}
+use mathlib.Core.List.{List, [], _∷_}
+use lib.Dec.{eqb}
+use lib.ListN.{length}
+use Rattle.octets.specs.Limits.{restart-limit}
+use Rattle.octets.specs.Octets.{put}
+use Rattle.ring.specs.Ring.{Newest, ring-wrong, is-blank, is-unreadable, is-pending, nonce-used}
+use Rattle.checkpoint.specs.declared.half.Head.{Head}
+use Rattle.checkpoint.specs.Checkpoint.{sealed, own-tag}
+use Rattle.checkpoint.specs.Fram.{fram-wrong}
+use Rattle.checkpoint.specs.Half.{open-length, secret-length, stored-restarts, good-tag, stored}
+use Rattle.protocol.specs.Types.{Session, Stopped}
+use Rattle.protocol.specs.Calls.{SaveArguments, PowersUp}
+use Rattle.protocol.specs.Operations.{Begin, no-job, key-wrong, nonce-wrong, parts-wrong, staging-wrong, state-wrong, stale, resumed}
+
+-- what a start that stops answers and leaves
+abbrev pub stopped : ℕ → (staging state : List ℕ) → Begin
+stopped s staging state = record { answer = Stopped s; job = no-job; secret-length = 0; staging = staging; state = state }
+
+-- ---- conditions
+
+-- those of look about its buffers
+abbrev pub look-buffers : ℕ → ℕ → (ring fram key : List ℕ) → List (ℕ × Bool)
+look-buffers pages slots ring fram key = (1, ring-wrong pages slots ring) ∷ (2, fram-wrong fram) ∷ (3, key-wrong (length key)) ∷ []
+
+-- those of save about its buffers
+abbrev pub save-buffers : (ring fram : List ℕ) → SaveArguments → List (ℕ × Bool)
+save-buffers ring fram a =
+    (1, ring-wrong (a .sizes .pages) (a .sizes .slots) ring) ∷
+    (2, fram-wrong fram) ∷
+    (3, key-wrong (length (a .key)) || nonce-wrong (length (a .nonce))) ∷
+    (4, parts-wrong (a .open-part) (a .secret) fram || staging-wrong (a .staging) fram) ∷ []
+
+-- those of save about the ring, which reads as n
+abbrev pub save-ring : (ring : List ℕ) → ℕ → Newest → Session → List ℕ → List (ℕ × Bool)
+save-ring ring slots n s nonce =
+    (6, is-blank n) ∷
+    (7, is-unreadable n) ∷
+    (8, stale ring slots n s) ∷
+    (9, is-pending n) ∷
+    (10, nonce-used ring slots n nonce) ∷ []
+
+-- those of power-up about its buffers
+abbrev pub power-up-buffers : (ring fram : List ℕ) → PowersUp → List (ℕ × Bool)
+power-up-buffers ring fram a =
+    (1, ring-wrong (a .sizes .pages) (a .sizes .slots) ring) ∷
+    (2, fram-wrong fram) ∷
+    (3, key-wrong (length (a .key)) || nonce-wrong (length (a .nonce))) ∷
+    (4, staging-wrong (a .staging) fram || state-wrong (a .state)) ∷ []
+
+-- those of power-up about the ring, which reads as n
+abbrev pub power-up-ring : (ring : List ℕ) → ℕ → Newest → List ℕ → List (ℕ × Bool)
+power-up-ring ring slots n nonce = (6, is-blank n) ∷ (7, is-unreadable n) ∷ (10, nonce-used ring slots n nonce) ∷ []
+
+-- those of power-up about the half behind a good head, whose record has the nonce `latest`
+abbrev pub half-lines : (key latest half : List ℕ) → List (ℕ × Bool)
+half-lines key latest half = (12, not (good-tag key latest half)) ∷ (13, eqb (stored-restarts half) restart-limit) ∷ []
+
+-- ---- a half's head as the code holds it, and what sealing it anew leaves
+
+pub record HeadOf (h : Head) (half : List ℕ) : Type 0 where
+  pub open-part : h .«open» ≡ open-length half
+  pub secret : h .secret ≡ secret-length half
+  pub restarts : h .restarts ≡ stored-restarts half
+
+-- the tag t, and staging and state at exit
+pub record Reseals (key t latest half nonce staging staging′ state state′ : List ℕ) : Type 0 where
+  pub tag : t ≡ own-tag key (resumed key nonce (stored key latest half))
+  pub staged : staging′ ≡ put staging 0 (sealed key (resumed key nonce (stored key latest half)))
+  pub restored : state′ ≡ put state 0 (stored key latest half .secret)

@@ -1,0 +1,379 @@
+// Power-up (document 01, "What the unit calls"): the newest checkpoint opened, and sealed anew with one restart more. Everything that can
+// stop it is tried before a byte of staging or state is written.
+use crate::job::no_job;
+use crate::memories::check_memories;
+use crate::saves::nonce_array;
+use crate::types::Job;
+use crate::types::Origin;
+use crate::types::Phase;
+use crate::types::PoweredUp;
+use crate::types::Start;
+use aes::key::expand_key;
+use aes::table::round_table;
+use checkpoint::fram::half_at;
+use checkpoint::half::Head;
+use checkpoint::half::good_tag;
+use checkpoint::half::open_part;
+use checkpoint::half::open_secret;
+use checkpoint::half::read_head;
+use checkpoint::layout::EMPTY_LENGTH;
+use checkpoint::layout::HEAD_LENGTH;
+use checkpoint::staging::seal;
+use gcm::key_wrong;
+use gcm::nonce_wrong;
+use gcm::tag::hash_steps;
+use gcm::tag::wipe_steps;
+use octets::fill;
+use octets::limits::NONCE_LENGTH;
+use octets::limits::PART_LIMIT;
+use octets::limits::RESTART_LIMIT;
+use octets::limits::TAG_LENGTH;
+use octets::part;
+use ring::Newest;
+use ring::half_named;
+use ring::nonce_used;
+use ring::read_ring;
+use stops::Check;
+use stops::Stop;
+ghost use mathlib.Core.Path.{_≡_};
+ghost use mathlib.Core.Bool.{true, false};
+ghost use mathlib.Core.Option.{none};
+ghost use mathlib.Core.List.{List};
+ghost use Prim.Native.Nat.{ℕ, _≤_, _<_};
+ghost use lib.ListN.{length};
+ghost use Rattle.octets.specs.Limits.{key-length, nonce-length, part-limit, restart-limit};
+ghost use Rattle.stops.specs.Stops.{first-of};
+ghost use Rattle.stops.specs.View.{check-number, stop-number};
+ghost use Rattle.aes.specs.Cipher.{cipher, aes};
+ghost use Rattle.ring.specs.Ring.{ring-wrong, read-ring, Within};
+ghost use Rattle.ring.specs.View.{newest};
+ghost use Rattle.checkpoint.specs.Half.{stored-length, good-head, good-tag, stored};
+ghost use Rattle.checkpoint.specs.Prepared.{Prepared};
+ghost use Rattle.protocol.specs.Types.{PowerUp};
+ghost use Rattle.protocol.specs.Operations.{begin, job-of, resumed, first-phase, power-up};
+ghost use Rattle.keeper.specs.View.{view-phase, view-powered-up, powers-up};
+ghost use Rattle.keeper.specs.Stages.{stopped, power-up-buffers, power-up-ring, half-lines, HeadOf, Reseals};
+ghost use Rattle.keeper.specs.Resealing.{Outcome};
+
+// What sealing anew answers: why it stops, or the new checkpoint's tag.
+struct Resealed {
+    check: Check,
+    tag: [u8; 16],
+}
+
+// Opens the secret part of a half into the front of state, and seals both parts, with one restart more and behind the half's own tag, into
+// staging. The head and the tag are good, and what was prepared of the key is lent.
+fn reopen(
+    table: &[u32; 256],
+    keys: &[u8; 240],
+    rounds: usize,
+    steps: &[u64; 256],
+    latest: &[u8],
+    half: &[u8],
+    head: Head,
+    nonce: &[u8],
+    staging: &mut [u8],
+    state: &mut [u8],
+) -> [u8; 16]
+    requires { ⌜ Prepared (now table) (now keys) (now steps) rounds × (length (now latest) ≡ nonce-length) × (length (now nonce) ≡ nonce-length) × (good-head (now half) ≡ true) × HeadOf head (now half) × (head .restarts < restart-limit) × (stored-length (now half) ≤ length (now staging)) × (part-limit ≤ length (now state)) ⌝ }
+    ensures { λ r. ⌜ ((key : List ℕ) → cipher rounds (now (keys .entry)) ≡ aes key → good-tag key (now (latest .entry)) (now (half .entry)) ≡ true → Reseals key r (now (latest .entry)) (now (half .entry)) (now (nonce .entry)) (now (staging .entry)) (now (staging .exit)) (now (state .entry)) (now (state .exit))) ⌝ }
+{
+    open_secret(
+        table,
+        keys,
+        rounds,
+        latest,
+        half,
+        head.open,
+        head.secret,
+        state,
+    );
+    let end = HEAD_LENGTH + head.open + head.secret;
+    seal(
+        table,
+        keys,
+        rounds,
+        steps,
+        nonce,
+        head.restarts + 1,
+        part(half, end, TAG_LENGTH),
+        open_part(half, head.open),
+        part(state, 0, head.secret),
+        staging,
+    )
+}
+
+// Stops 12 and 13 of a half with a good head, or the checkpoint sealed anew.
+fn reseal_prepared(
+    table: &[u32; 256],
+    keys: &[u8; 240],
+    rounds: usize,
+    steps: &[u64; 256],
+    latest: &[u8],
+    half: &[u8],
+    head: Head,
+    nonce: &[u8],
+    staging: &mut [u8],
+    state: &mut [u8],
+) -> Resealed
+    requires { ⌜ Prepared (now table) (now keys) (now steps) rounds × (length (now latest) ≡ nonce-length) × (length (now nonce) ≡ nonce-length) × (good-head (now half) ≡ true) × HeadOf head (now half) × (stored-length (now half) ≤ length (now staging)) × (part-limit ≤ length (now state)) ⌝ }
+    ensures { λ r. ⌜ ((key : List ℕ) → cipher rounds (now (keys .entry)) ≡ aes key → Outcome key r (now (latest .entry)) (now (half .entry)) (now (nonce .entry)) (now (staging .entry)) (now (staging .exit)) (now (state .entry)) (now (state .exit))) ⌝ }
+{
+    let good = good_tag(
+        table,
+        keys,
+        rounds,
+        steps,
+        latest,
+        half,
+        head.open,
+        head.secret,
+    );
+    let check = Check::Pass
+        .stop_if(!good, Stop::TagDiffers)
+        .stop_if(head.restarts == RESTART_LIMIT, Stop::RestartLimit);
+    match check {
+        Check::Stopped(stop) => {
+            let zeros = [0u8; 16];
+            Resealed {
+                check: Check::Stopped(stop),
+                tag: zeros,
+            }
+        }
+        Check::Pass => {
+            let tag = reopen(
+                table,
+                keys,
+                rounds,
+                steps,
+                latest,
+                half,
+                head,
+                nonce,
+                staging,
+                state,
+            );
+            Resealed {
+                check: Check::Pass,
+                tag,
+            }
+        }
+    }
+}
+
+// The same under a key: what is made of the key is overwritten before the call returns.
+fn reseal(
+    key: &[u8],
+    latest: &[u8],
+    half: &[u8],
+    head: Head,
+    nonce: &[u8],
+    staging: &mut [u8],
+    state: &mut [u8],
+) -> Resealed
+    requires { ⌜ (length (now key) ≡ key-length) × (length (now latest) ≡ nonce-length) × (length (now nonce) ≡ nonce-length) × (good-head (now half) ≡ true) × HeadOf head (now half) × (stored-length (now half) ≤ length (now staging)) × (part-limit ≤ length (now state)) ⌝ }
+    ensures { λ r. ⌜ Outcome (now (key .entry)) r (now (latest .entry)) (now (half .entry)) (now (nonce .entry)) (now (staging .entry)) (now (staging .exit)) (now (state .entry)) (now (state .exit)) ⌝ }
+{
+    let rounds = key.len() / 4 + 6;
+    let table = round_table();
+    let mut keys = expand_key(key);
+    let mut steps = hash_steps(&table, &keys, rounds);
+    let resealed = reseal_prepared(
+        &table,
+        &keys,
+        rounds,
+        &steps,
+        latest,
+        half,
+        head,
+        nonce,
+        staging,
+        state,
+    );
+    fill(&mut keys, 0);
+    wipe_steps(&mut steps);
+    resealed
+}
+
+// A stop, with a job that is done.
+fn not_resumed(stop: Stop) -> PoweredUp
+    ensures { λ r. ⌜ ((staging state : List ℕ) → view-powered-up r staging state ≡ stopped (stop-number stop) staging state) ⌝ }
+{
+    let job = no_job();
+    PoweredUp {
+        start: Start::Stopped(stop),
+        job,
+        length: 0,
+    }
+}
+
+// A half with a good head: stops 12 and 13, or the checkpoint sealed anew, and the job that stores it in a half and at a target.
+fn restore(
+    key: &[u8],
+    latest: &[u8],
+    half: &[u8],
+    head: Head,
+    nonce: &[u8],
+    staging: &mut [u8],
+    state: &mut [u8],
+    phase: Phase,
+    other: usize,
+    page: usize,
+    slot: usize,
+) -> PoweredUp
+    requires { ⌜ (length (now key) ≡ key-length) × (length (now latest) ≡ nonce-length) × (length (now nonce) ≡ nonce-length) × (good-head (now half) ≡ true) × HeadOf head (now half) × (stored-length (now half) ≤ length (now staging)) × (part-limit ≤ length (now state)) ⌝ }
+    ensures { λ r. ⌜ view-powered-up r (now (staging .exit)) (now (state .exit)) ≡ begin (first-of (half-lines (now (key .entry)) (now (latest .entry)) (now (half .entry)))) (now (key .entry)) (resumed (now (key .entry)) (now (nonce .entry)) (stored (now (key .entry)) (now (latest .entry)) (now (half .entry)))) (job-of (now (key .entry)) (resumed (now (key .entry)) (now (nonce .entry)) (stored (now (key .entry)) (now (latest .entry)) (now (half .entry)))) (view-phase phase) PowerUp other page slot) (now (staging .entry)) (now (state .entry)) (stored (now (key .entry)) (now (latest .entry)) (now (half .entry)) .secret) ⌝ }
+{
+    let resealed = reseal(key, latest, half, head, nonce, staging, state);
+    let check = resealed.check;
+    match check {
+        Check::Stopped(stop) => not_resumed(stop),
+        Check::Pass => {
+            let origin = Origin::PowerUp;
+            let tag = resealed.tag;
+            let job = Job {
+                phase,
+                origin,
+                half: other,
+                length: EMPTY_LENGTH + head.open + head.secret,
+                page,
+                slot,
+                nonce: nonce_array(nonce),
+                tag,
+            };
+            PoweredUp {
+                start: Start::Begun,
+                job,
+                length: head.secret,
+            }
+        }
+    }
+}
+
+// The first phase of a power-up's job: a pending page is erased first.
+fn first_phase(found: Newest) -> Phase
+    ensures { λ r. ⌜ view-phase r ≡ first-phase (newest found) ⌝ }
+{
+    match found {
+        Newest::Blank => Phase::Words(0),
+        Newest::Unreadable => Phase::Words(0),
+        Newest::At { page: _, slot: _ } => Phase::Words(0),
+        Newest::AtPending { page: _, pending } => Phase::EraseFirst(pending),
+    }
+}
+
+// Stops 1 to 4 of power-up.
+fn check_power_up(
+    pages: usize,
+    slots: usize,
+    ring: &[u8],
+    fram: &[u8],
+    key: &[u8],
+    nonce: &[u8],
+    staging: &[u8],
+    state: &[u8],
+) -> Check
+    ensures { λ r. ⌜ check-number r ≡ first-of (power-up-buffers (now (ring .entry)) (now (fram .entry)) (powers-up pages slots (now (key .entry)) (now (nonce .entry)) (now (staging .entry)) (now (state .entry)))) ⌝ }
+{
+    let lengths = key_wrong(key.len()) | nonce_wrong(nonce.len());
+    let buffers = (staging.len() < fram.len() / 2) | (state.len() < PART_LIMIT);
+    check_memories(ring, pages, slots, fram)
+        .stop_if(lengths, Stop::KeyNonceTagSize)
+        .stop_if(buffers, Stop::BufferSize)
+}
+
+// Stops 6, 7 and 10 of power-up, on a ring that reads as `found`.
+fn check_newest(pages: usize, slots: usize, ring: &[u8], found: Newest, nonce: &[u8]) -> Check
+    requires { ⌜ (ring-wrong pages slots (now ring) ≡ false) × Within pages slots (newest found) ⌝ }
+    ensures { λ r. ⌜ check-number r ≡ first-of (power-up-ring (now (ring .entry)) slots (newest found) (now (nonce .entry))) ⌝ }
+{
+    let used = nonce_used(ring, pages, slots, found, nonce);
+    Check::Pass
+        .stop_if(found.is_blank(), Stop::RingBlank)
+        .stop_if(found.is_unreadable(), Stop::RingUnreadable)
+        .stop_if(used, Stop::NonceUsed)
+}
+
+// Where stops 1 to 10 do not apply.
+fn resume(
+    pages: usize,
+    slots: usize,
+    ring: &[u8],
+    fram: &[u8],
+    key: &[u8],
+    nonce: &[u8],
+    staging: &mut [u8],
+    state: &mut [u8],
+    found: Newest,
+) -> PoweredUp
+    requires { ⌜ (first-of (power-up-buffers (now ring) (now fram) (powers-up pages slots (now key) (now nonce) (now staging) (now state))) ≡ none) × (newest found ≡ read-ring (now ring) pages slots) × Within pages slots (newest found) × (first-of (power-up-ring (now ring) slots (newest found) (now nonce)) ≡ none) ⌝ }
+    ensures { λ r. ⌜ view-powered-up r (now (staging .exit)) (now (state .exit)) ≡ power-up (now (ring .entry)) (now (fram .entry)) (powers-up pages slots (now (key .entry)) (now (nonce .entry)) (now (staging .entry)) (now (state .entry))) ⌝ }
+{
+    let record = found.record(ring, pages, slots);
+    let number = half_named(record);
+    let half = half_at(fram, number);
+    let head = read_head(half);
+    if head.good {
+        let latest = part(record, 0, NONCE_LENGTH);
+        let phase = first_phase(found);
+        let page = found.target_page(pages, slots);
+        let slot = found.target_slot(slots);
+        return restore(
+            key,
+            latest,
+            half,
+            head,
+            nonce,
+            staging,
+            state,
+            phase,
+            1 - number,
+            page,
+            slot,
+        );
+    }
+    not_resumed(Stop::BadHead)
+}
+
+// Where stops 1 to 4 do not apply.
+fn power_up_on(
+    pages: usize,
+    slots: usize,
+    ring: &[u8],
+    fram: &[u8],
+    key: &[u8],
+    nonce: &[u8],
+    staging: &mut [u8],
+    state: &mut [u8],
+) -> PoweredUp
+    requires { ⌜ first-of (power-up-buffers (now ring) (now fram) (powers-up pages slots (now key) (now nonce) (now staging) (now state))) ≡ none ⌝ }
+    ensures { λ r. ⌜ view-powered-up r (now (staging .exit)) (now (state .exit)) ≡ power-up (now (ring .entry)) (now (fram .entry)) (powers-up pages slots (now (key .entry)) (now (nonce .entry)) (now (staging .entry)) (now (state .entry))) ⌝ }
+{
+    let found = read_ring(ring, pages, slots);
+    let check = check_newest(pages, slots, ring, found, nonce);
+    match check {
+        Check::Stopped(stop) => not_resumed(stop),
+        Check::Pass => resume(pages, slots, ring, fram, key, nonce, staging, state, found),
+    }
+}
+
+// Opens the newest checkpoint, puts its secret part to the front of state, seals both parts with one restart more into staging and answers
+// the job that stores it, or stops with 1 to 4, 6, 7 or 10 to 13. The state may be used once the job has said 'restored'.
+pub fn power_up(
+    pages: usize,
+    slots: usize,
+    ring: &[u8],
+    fram: &[u8],
+    key: &[u8],
+    nonce: &[u8],
+    staging: &mut [u8],
+    state: &mut [u8],
+) -> PoweredUp
+    ensures { λ r. ⌜ view-powered-up r (now (staging .exit)) (now (state .exit)) ≡ power-up (now (ring .entry)) (now (fram .entry)) (powers-up pages slots (now (key .entry)) (now (nonce .entry)) (now (staging .entry)) (now (state .entry))) ⌝ }
+{
+    let check = check_power_up(pages, slots, ring, fram, key, nonce, staging, state);
+    match check {
+        Check::Stopped(stop) => not_resumed(stop),
+        Check::Pass => power_up_on(pages, slots, ring, fram, key, nonce, staging, state),
+    }
+}

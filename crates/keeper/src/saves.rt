@@ -1,0 +1,271 @@
+// First save and save (document 01, "What the unit calls"): a checkpoint sealed into staging, and the job that stores it.
+use crate::job::no_job;
+use crate::memories::check_memories;
+use crate::types::Job;
+use crate::types::Origin;
+use crate::types::Phase;
+use crate::types::Session;
+use crate::types::Start;
+use crate::types::Started;
+use checkpoint::fram::part_wrong;
+use checkpoint::layout::EMPTY_LENGTH;
+use checkpoint::under::seal_under;
+use gcm::key_wrong;
+use gcm::nonce_wrong;
+use gcm::tag_wrong;
+use octets::blank;
+use octets::copy;
+use octets::limits::NONCE_LENGTH;
+use ring::Newest;
+use ring::half_named;
+use ring::nonce_used;
+use ring::not_newest;
+use ring::read_ring;
+use stops::Check;
+use stops::Stop;
+ghost use mathlib.Core.Path.{_≡_};
+ghost use mathlib.Core.Bool.{false};
+ghost use mathlib.Core.Option.{none};
+ghost use mathlib.Core.List.{List, []};
+ghost use Prim.Native.Nat.{ℕ, _≤_};
+ghost use lib.ListN.{length};
+ghost use Rattle.octets.specs.Limits.{key-length, nonce-length, part-limit, tag-length};
+ghost use Rattle.stops.specs.Stops.{first-of};
+ghost use Rattle.stops.specs.View.{check-number, stop-number};
+ghost use Rattle.ring.specs.Ring.{ring-wrong, Within};
+ghost use Rattle.ring.specs.View.{newest};
+ghost use Rattle.checkpoint.specs.Checkpoint.{sealed-length};
+ghost use Rattle.checkpoint.specs.Prepared.{checkpoint-of};
+ghost use Rattle.protocol.specs.Types.{Words, Save};
+ghost use Rattle.protocol.specs.Operations.{begin, job-of, parts-wrong, first-save-stop, first-save, save};
+ghost use Rattle.keeper.specs.View.{view-session, view-started, save-arguments, first-saves, saves};
+ghost use Rattle.keeper.specs.Stages.{save-buffers, save-ring, stopped};
+
+// Stop 4 of both parts.
+fn parts_wrong(open: &[u8], secret: &[u8], fram: &[u8]) -> bool
+    ensures { λ r. ⌜ r ≡ parts-wrong (now («open» .entry)) (now (secret .entry)) (now (fram .entry)) ⌝ }
+{
+    if part_wrong(open) | part_wrong(secret) {
+        return true;
+    }
+    fram.len() / 2 < EMPTY_LENGTH + open.len() + secret.len()
+}
+
+// A stop, with a job that is done.
+fn not_begun(stop: Stop) -> Started
+    ensures { λ r. ⌜ ((staging : List ℕ) → view-started r staging ≡ stopped (stop-number stop) staging []) ⌝ }
+{
+    let job = no_job();
+    Started {
+        start: Start::Stopped(stop),
+        job,
+    }
+}
+
+// A nonce as an array.
+pub(crate) fn nonce_array(nonce: &[u8]) -> [u8; NONCE_LENGTH]
+    requires { ⌜ length (now nonce) ≡ nonce-length ⌝ }
+    ensures { λ r. ⌜ r ≡ now (nonce .entry) ⌝ }
+{
+    let mut r = [0u8; NONCE_LENGTH];
+    copy(nonce, &mut r);
+    r
+}
+
+// Seals a save's checkpoint into staging, and makes the job that stores it in a half and at a target.
+fn begin_save(
+    key: &[u8],
+    nonce: &[u8],
+    previous: &[u8],
+    open: &[u8],
+    secret: &[u8],
+    staging: &mut [u8],
+    half: usize,
+    page: usize,
+    slot: usize,
+) -> Started
+    requires { ⌜ (length (now key) ≡ key-length) × (length (now nonce) ≡ nonce-length) × (length (now previous) ≡ tag-length) × (length (now «open») ≤ part-limit) × (length (now secret) ≤ part-limit) × (sealed-length (length (now «open»)) (length (now secret)) ≤ length (now staging)) ⌝ }
+    ensures { λ r. ⌜ view-started r (now (staging .exit)) ≡ begin none (now (key .entry)) (checkpoint-of (now («open» .entry)) (now (secret .entry)) 0 (now (previous .entry)) (now (nonce .entry))) (job-of (now (key .entry)) (checkpoint-of (now («open» .entry)) (now (secret .entry)) 0 (now (previous .entry)) (now (nonce .entry))) (Words 0) Save half page slot) (now (staging .entry)) [] [] ⌝ }
+{
+    let tag = seal_under(key, nonce, 0, previous, open, secret, staging);
+    let phase = Phase::Words(0);
+    let origin = Origin::Save;
+    let job = Job {
+        phase,
+        origin,
+        half,
+        length: EMPTY_LENGTH + open.len() + secret.len(),
+        page,
+        slot,
+        nonce: nonce_array(nonce),
+        tag,
+    };
+    Started {
+        start: Start::Begun,
+        job,
+    }
+}
+
+// Stops 1 to 4 of save.
+fn check_save(
+    pages: usize,
+    slots: usize,
+    ring: &[u8],
+    fram: &[u8],
+    key: &[u8],
+    nonce: &[u8],
+    open: &[u8],
+    secret: &[u8],
+    staging: &[u8],
+) -> Check
+    ensures { λ r. ⌜ check-number r ≡ first-of (save-buffers (now (ring .entry)) (now (fram .entry)) (save-arguments pages slots (now (key .entry)) (now (nonce .entry)) (now («open» .entry)) (now (secret .entry)) (now (staging .entry)))) ⌝ }
+{
+    let lengths = key_wrong(key.len()) | nonce_wrong(nonce.len());
+    let buffers = parts_wrong(open, secret, fram) | (staging.len() < fram.len() / 2);
+    check_memories(ring, pages, slots, fram)
+        .stop_if(lengths, Stop::KeyNonceTagSize)
+        .stop_if(buffers, Stop::BufferSize)
+}
+
+// Stops 1 to 5 of first save.
+fn check_first_save(
+    pages: usize,
+    slots: usize,
+    ring: &[u8],
+    fram: &[u8],
+    key: &[u8],
+    nonce: &[u8],
+    starting_tag: &[u8],
+    open: &[u8],
+    secret: &[u8],
+    staging: &[u8],
+) -> Check
+    ensures { λ r. ⌜ check-number r ≡ first-save-stop (now (ring .entry)) (now (fram .entry)) (first-saves (save-arguments pages slots (now (key .entry)) (now (nonce .entry)) (now («open» .entry)) (now (secret .entry)) (now (staging .entry))) (now («starting_tag» .entry))) ⌝ }
+{
+    let lengths = key_wrong(key.len()) | nonce_wrong(nonce.len()) | tag_wrong(starting_tag.len());
+    let buffers = parts_wrong(open, secret, fram) | (staging.len() < fram.len() / 2);
+    check_memories(ring, pages, slots, fram)
+        .stop_if(lengths, Stop::KeyNonceTagSize)
+        .stop_if(buffers, Stop::BufferSize)
+        .stop_if(!blank(ring), Stop::RingInUse)
+}
+
+// Seals the unit's first checkpoint into staging and answers the job that stores it, or stops with 1 to 5.
+pub fn first_save(
+    pages: usize,
+    slots: usize,
+    ring: &[u8],
+    fram: &[u8],
+    key: &[u8],
+    nonce: &[u8],
+    starting_tag: &[u8],
+    open: &[u8],
+    secret: &[u8],
+    staging: &mut [u8],
+) -> Started
+    ensures { λ r. ⌜ view-started r (now (staging .exit)) ≡ first-save (now (ring .entry)) (now (fram .entry)) (first-saves (save-arguments pages slots (now (key .entry)) (now (nonce .entry)) (now («open» .entry)) (now (secret .entry)) (now (staging .entry))) (now («starting_tag» .entry))) ⌝ }
+{
+    let check = check_first_save(
+        pages,
+        slots,
+        ring,
+        fram,
+        key,
+        nonce,
+        starting_tag,
+        open,
+        secret,
+        staging,
+    );
+    match check {
+        Check::Stopped(stop) => not_begun(stop),
+        Check::Pass => begin_save(key, nonce, starting_tag, open, secret, staging, 0, 0, 0),
+    }
+}
+
+impl Session {
+    // Stops 6 to 10 of save, on a ring that reads as `found`.
+    fn check_ring(
+        self,
+        pages: usize,
+        slots: usize,
+        ring: &[u8],
+        found: Newest,
+        nonce: &[u8],
+    ) -> Check
+        requires { ⌜ (ring-wrong pages slots (now ring) ≡ false) × Within pages slots (newest found) ⌝ }
+        ensures { λ r. ⌜ check-number r ≡ first-of (save-ring (now (ring .entry)) slots (newest found) (view-session self) (now (nonce .entry))) ⌝ }
+    {
+        let latest = self.latest;
+        let stale = not_newest(ring, pages, slots, found, self.page, self.slot, &latest);
+        let used = nonce_used(ring, pages, slots, found, nonce);
+        Check::Pass
+            .stop_if(found.is_blank(), Stop::RingBlank)
+            .stop_if(found.is_unreadable(), Stop::RingUnreadable)
+            .stop_if(stale, Stop::StaleSession)
+            .stop_if(found.is_pending(), Stop::PagePending)
+            .stop_if(used, Stop::NonceUsed)
+    }
+
+    // Where stops 1 to 4 do not apply.
+    fn save_on(
+        self,
+        pages: usize,
+        slots: usize,
+        ring: &[u8],
+        fram: &[u8],
+        key: &[u8],
+        nonce: &[u8],
+        open: &[u8],
+        secret: &[u8],
+        staging: &mut [u8],
+    ) -> Started
+        requires { ⌜ first-of (save-buffers (now ring) (now fram) (save-arguments pages slots (now key) (now nonce) (now «open») (now secret) (now staging))) ≡ none ⌝ }
+        ensures { λ r. ⌜ view-started r (now (staging .exit)) ≡ save (now (ring .entry)) (now (fram .entry)) (saves (save-arguments pages slots (now (key .entry)) (now (nonce .entry)) (now («open» .entry)) (now (secret .entry)) (now (staging .entry))) self) ⌝ }
+    {
+        let newest = read_ring(ring, pages, slots);
+        let check = self.check_ring(pages, slots, ring, newest, nonce);
+        match check {
+            Check::Stopped(stop) => not_begun(stop),
+            Check::Pass => {
+                let half = 1 - half_named(newest.record(ring, pages, slots));
+                let page = newest.target_page(pages, slots);
+                let slot = newest.target_slot(slots);
+                let tag = self.tag;
+                begin_save(key, nonce, &tag, open, secret, staging, half, page, slot)
+            }
+        }
+    }
+
+    // Seals the next checkpoint into staging and answers the job that stores it, or stops with 1 to 4 or 6 to 10.
+    pub fn save(
+        self,
+        pages: usize,
+        slots: usize,
+        ring: &[u8],
+        fram: &[u8],
+        key: &[u8],
+        nonce: &[u8],
+        open: &[u8],
+        secret: &[u8],
+        staging: &mut [u8],
+    ) -> Started
+        ensures { λ r. ⌜ view-started r (now (staging .exit)) ≡ save (now (ring .entry)) (now (fram .entry)) (saves (save-arguments pages slots (now (key .entry)) (now (nonce .entry)) (now («open» .entry)) (now (secret .entry)) (now (staging .entry))) self) ⌝ }
+    {
+        let check = check_save(pages, slots, ring, fram, key, nonce, open, secret, staging);
+        match check {
+            Check::Stopped(stop) => not_begun(stop),
+            Check::Pass => self.save_on(
+                pages,
+                slots,
+                ring,
+                fram,
+                key,
+                nonce,
+                open,
+                secret,
+                staging,
+            ),
+        }
+    }
+}
