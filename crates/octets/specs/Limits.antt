@@ -1,4 +1,5 @@
--- Document 01's limits and lengths, each named here and, for the code, in src/limits.rt, and nowhere else written as a numeral.
+-- Document 01's limits and lengths, each named here and, for the code, in src/limits.rt, and nowhere else written as a numeral,
+-- but for Layout.antt of checkpoint, which gives document 01's offsets as numbers of their own, and the standards' own numbers in aes and gcm.
 -- Lengths are in bytes; a word is 4.
 use Prim.Native.Nat.{ℕ}
 
