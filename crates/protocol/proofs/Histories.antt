@@ -412,7 +412,8 @@ page-used : blank zeros ≡ false
 unfolding blank
 page-used = refl
 
-lost-there : Allowed smallest resting losing × Owing smallest resting (run smallest resting losing) (kept smallest (smallest-fits .key-right) resting 2 0 (two-row .after) (lit< tt)) (bytes nonce-length 2)
+lost-there : Allowed smallest resting losing
+    × Owing smallest resting (run smallest resting losing) (kept smallest (smallest-fits .key-right) resting 2 0 (two-row .after) (lit< tt)) (bytes nonce-length 2)
 lost-there = save-lost smallest (smallest-fits .key-right) resting 2 0 (two-row .after) (lit< tt) zeros page-opens page-long page-used
 
 standing-there : Standing smallest (run smallest resting losing) 3 0

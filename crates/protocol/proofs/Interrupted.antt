@@ -123,17 +123,20 @@ module _ (u : Setup) (s : State) (e : Event) (c : Checkpoint) (origin : Origin) 
   abbrev before : List Event
   before = e ∷ advances-of u (length first) (step u s e)
 
+  abbrev there : State
+  there = run u (step u s e) (advances-of u (length first) (step u s e))
+
   before-allowed : Allowed u s before
   unfolding Allowed
   before-allowed = (inr k, made-here .allowed)
 
   loss-allowed : Allowed u (run u s before) (lost-in-store left ∷ [])
   unfolding Allowed run
-  loss-allowed = (inr (loss-keeps u (run u (step u s e) (advances-of u (length first) (step u s e))) c origin (made-here .handed) left (made-here .holds) (made-here .handed-is) (made-here .draft-is) l), tt)
+  loss-allowed = (inr (loss-keeps u there c origin (made-here .handed) left (made-here .holds) (made-here .handed-is) (made-here .draft-is) l), tt)
 
   owing-here : Owing u s (run u (run u s before) (lost-in-store left ∷ [])) c nonce
   unfolding run
-  owing-here = loss-owing u (run u (step u s e) (advances-of u (length first) (step u s e))) c origin (made-here .handed) left (made-here .holds) (made-here .handed-is) (made-here .draft-is) l
+  owing-here = loss-owing u there c origin (made-here .handed) left (made-here .holds) (made-here .handed-is) (made-here .draft-is) l
       s nonce b (made-here .count ∙ (λ i. n i + first-record (u .key) (s .journal) c i)) (made-here .nonces ∙ m)
 
   events-are : but-the-last u s e left ≡ before ++ lost-in-store left ∷ []

@@ -162,7 +162,7 @@ pub record Stands (u : Setup) (t : State) (new : Checkpoint) : Type 0 where
 pub record Resumes (u : Setup) (s : State) (a : PowersUp) (c : Checkpoint) : Type 0 where
   pub begins : power-up (s .ring) (s .fram) a .answer ≡ Begun
   pub length-answered : power-up (s .ring) (s .fram) a .secret-length ≡ length (c .secret)
-  -- no operation but power-up is lent a state buffer, and a power-up that stops leaves its own as it was: this still holds at 'restored'
+  -- no call of a list but a power-up is lent a state buffer, and one that stops leaves its own as it was: this still holds at 'restored'
   pub restored : power-up (s .ring) (s .fram) a .state ≡ put (a .state) 0 (c .secret)
   -- one advance for each store to come, with only refused calls between, runs it to its end, and every such run ends so;
   -- each of its calls stops exactly where demand 1 says, a stop leaves every buffer, and an advance makes one store
