@@ -1,0 +1,98 @@
+// Document 01's bench values of the limits: what a first save says to a number of pages, a FRAM and parts of given lengths.
+use crate::print::print;
+use crate::print::print_stop;
+use crate::values::key;
+use crate::values::starting_tag;
+use keeper::Start;
+use keeper::first_save;
+use keeper::power_up;
+use octets::part;
+ghost use Prim.Native.Nat.{_≤_};
+
+fn print_start(start: Start) {
+    match start {
+        Start::Begun => print(b": begun\n"),
+        Start::Stopped(stop) => {
+            print_stop(b": ", stop);
+            print(b"\n");
+        }
+    }
+}
+
+// A first save on a blank ring of pages of 2 slots.
+fn try_first_save(name: &[u8], pages: usize, fram: usize, open: usize, secret: usize)
+    requires { ⌜ (pages ≤ 33) × (fram ≤ 131080) × («open» ≤ 4100) × (secret ≤ 4100) ⌝ }
+{
+    let ring = [0xFFu8; 1056];
+    let image = [0u8; 131_080];
+    let bytes = [0u8; 4100];
+    let mut staging = [0u8; 65_540];
+    let started = first_save(
+        pages,
+        2,
+        part(&ring, 0, 32 * pages),
+        part(&image, 0, fram),
+        &key(),
+        &[1u8; 12],
+        &starting_tag(),
+        part(&bytes, 0, open),
+        part(&bytes, 0, secret),
+        &mut staging,
+    );
+    let start = started.start;
+    print(name);
+    print_start(start);
+}
+
+// A ring of 4 pages of 2 slots, where pages 0 and 2 are not blank.
+fn try_parted_ring() {
+    let mut ring = [0xFFu8; 128];
+    ring[0] = 0;
+    ring[64] = 0;
+    let fram = [0u8; 128];
+    let mut staging = [0u8; 64];
+    let mut state = [0u8; 4096];
+    let p = power_up(
+        4,
+        2,
+        &ring,
+        &fram,
+        &key(),
+        &[1u8; 12],
+        &mut staging,
+        &mut state,
+    );
+    let start = p.start;
+    print(b"pages 0 and 2 of 4 not blank, power-up");
+    print_start(start);
+}
+
+pub fn show_fram_bounds() {
+    try_first_save(b"FRAM of 80 bytes", 3, 80, 0, 0);
+    try_first_save(b"FRAM of 84 bytes", 3, 84, 0, 0);
+    try_first_save(b"FRAM of 88 bytes, empty parts", 3, 88, 0, 0);
+    try_first_save(b"FRAM of 88 bytes, a word of open part", 3, 88, 4, 0);
+    try_first_save(b"FRAM of 88 bytes, a word of secret part", 3, 88, 0, 4);
+    try_first_save(b"FRAM of 131072 bytes", 3, 131_072, 0, 0);
+    try_first_save(b"FRAM of 131080 bytes", 3, 131_080, 0, 0);
+}
+
+pub fn show_page_bounds() {
+    try_first_save(b"2 pages", 2, 128, 0, 0);
+    try_first_save(b"3 pages", 3, 128, 0, 0);
+    try_first_save(b"32 pages", 32, 128, 0, 0);
+    try_first_save(b"33 pages", 33, 128, 0, 0);
+}
+
+pub fn show_part_bounds() {
+    try_first_save(b"open part of 4096 bytes", 3, 131_072, 4096, 0);
+    try_first_save(b"open part of 4097 bytes", 3, 131_072, 4097, 0);
+    try_first_save(b"open part of 4100 bytes", 3, 131_072, 4100, 0);
+    try_first_save(b"secret part of 4096 bytes", 3, 131_072, 0, 4096);
+    try_first_save(b"secret part of 4097 bytes", 3, 131_072, 0, 4097);
+    try_first_save(b"secret part of 4100 bytes", 3, 131_072, 0, 4100);
+}
+
+pub fn show_ring_bounds() {
+    try_parted_ring();
+}

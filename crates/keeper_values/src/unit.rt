@@ -1,0 +1,193 @@
+// A unit with a ring of 3 pages of 2 slots, an open part of 8 bytes and a secret part of 4: its calls, each with a line that says
+// what it answered, what look and its companion then give, and the ring's state.
+use crate::print::print;
+use crate::print::print_bytes;
+use crate::print::print_front;
+use crate::print::print_number;
+use crate::print::print_progress;
+use crate::print::print_stop;
+use crate::values::PAGES;
+use crate::values::SLOTS;
+use crate::values::key;
+use crate::values::starting_tag;
+use keeper::Advanced;
+use keeper::Job;
+use keeper::Looked;
+use keeper::Session;
+use keeper::Start;
+use keeper::Started;
+use keeper::look;
+use keeper::open_part;
+use libc::STDOUT_FILENO;
+use ring_line::ring_line;
+
+fn print_looked(ring: &[u8], fram: &[u8]) {
+    let looked = look(PAGES, SLOTS, ring, fram, &key());
+    match looked {
+        Looked::Restarts(n) => {
+            print_number(b"; restarts ", n);
+            print(b"; open part ");
+            print_bytes(open_part(PAGES, SLOTS, ring, fram, &key()));
+        }
+        Looked::Unseen(stop) => print_stop(b"; look stopped ", stop),
+    }
+}
+
+fn print_ring(ring: &[u8]) {
+    print(b"; ");
+    let line = ring_line(ring, PAGES, SLOTS);
+    let bytes = line.bytes;
+    let length = line.length;
+    io::write_all(STDOUT_FILENO, &bytes[..length]);
+}
+
+pub fn print_memories(ring: &[u8], fram: &[u8]) {
+    print_looked(ring, fram);
+    print_ring(ring);
+}
+
+// One advance.
+fn next_job(job: Job, ring: &mut [u8], fram: &mut [u8], staging: &[u8]) -> Job {
+    let a = job.advance(PAGES, SLOTS, ring, fram, staging);
+    a.job
+}
+
+// A number of advances, at least one; answers the last.
+fn run(job: Job, advances: usize, ring: &mut [u8], fram: &mut [u8], staging: &[u8]) -> Advanced {
+    let mut j = job;
+    for _ in 1..advances {
+        let next = next_job(j, ring, fram, staging);
+        j = next;
+    }
+    j.advance(PAGES, SLOTS, ring, fram, staging)
+}
+
+// Runs the job of a start for a number of advances. Answers the session that it handed out, or after a stop the one given.
+fn carry_out(
+    started: Started,
+    session: Session,
+    advances: usize,
+    ring: &mut [u8],
+    fram: &mut [u8],
+    staging: &[u8],
+) -> Session {
+    let start = started.start;
+    match start {
+        Start::Stopped(stop) => {
+            print_stop(b": stopped ", stop);
+            session
+        }
+        Start::Begun => {
+            let job = started.job;
+            let a = run(job, advances, ring, fram, staging);
+            let progress = a.progress;
+            print_progress(progress, advances);
+            a.session
+        }
+    }
+}
+
+pub fn do_first_save(
+    value: u8,
+    nonce: u8,
+    advances: usize,
+    ring: &mut [u8],
+    fram: &mut [u8],
+) -> Session {
+    print_number(b"first save of ", value as usize);
+    let mut staging = [0u8; 64];
+    let started = keeper::first_save(
+        PAGES,
+        SLOTS,
+        ring,
+        fram,
+        &key(),
+        &[nonce; 12],
+        &starting_tag(),
+        &[value; 8],
+        &[value; 4],
+        &mut staging,
+    );
+    let none = no_session();
+    let next = carry_out(started, none, advances, ring, fram, &staging);
+    print_memories(ring, fram);
+    next
+}
+
+// A session that no call handed out.
+pub fn no_session() -> Session {
+    Session {
+        page: 0,
+        slot: 0,
+        latest: [0u8; 16],
+        tag: [0u8; 16],
+    }
+}
+
+pub fn do_save(
+    session: Session,
+    value: u8,
+    nonce: u8,
+    advances: usize,
+    ring: &mut [u8],
+    fram: &mut [u8],
+) -> Session {
+    print_number(b"save of ", value as usize);
+    let mut staging = [0u8; 64];
+    let started = session.save(
+        PAGES,
+        SLOTS,
+        ring,
+        fram,
+        &key(),
+        &[nonce; 12],
+        &[value; 8],
+        &[value; 4],
+        &mut staging,
+    );
+    let next = carry_out(started, session, advances, ring, fram, &staging);
+    print_memories(ring, fram);
+    next
+}
+
+fn print_resumed(state: &[u8], length: usize) {
+    if length > 0 {
+        print(b"; state ");
+        print_front(state, length);
+    }
+}
+
+pub fn do_power_up(
+    session: Session,
+    nonce: u8,
+    advances: usize,
+    ring: &mut [u8],
+    fram: &mut [u8],
+) -> Session {
+    print(b"power-up");
+    let mut staging = [0u8; 64];
+    let mut state = [0u8; 4096];
+    let p = keeper::power_up(
+        PAGES,
+        SLOTS,
+        ring,
+        fram,
+        &key(),
+        &[nonce; 12],
+        &mut staging,
+        &mut state,
+    );
+    let start = p.start;
+    let job = p.job;
+    let next = carry_out(
+        Started { start, job },
+        session,
+        advances,
+        ring,
+        fram,
+        &staging,
+    );
+    print_resumed(&state, p.length);
+    print_memories(ring, fram);
+    next
+}
