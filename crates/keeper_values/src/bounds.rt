@@ -19,6 +19,25 @@ fn print_start(start: Start) {
     }
 }
 
+fn begin(name: &[u8], pages: usize, ring: &[u8], fram: &[u8], open: &[u8], secret: &[u8]) {
+    let mut staging = [0u8; 65_540];
+    let started = first_save(
+        pages,
+        2,
+        ring,
+        fram,
+        &key(),
+        &[1u8; 12],
+        &starting_tag(),
+        open,
+        secret,
+        &mut staging,
+    );
+    let start = started.start;
+    print(name);
+    print_start(start);
+}
+
 // A first save on a blank ring of pages of 2 slots.
 fn try_first_save(name: &[u8], pages: usize, fram: usize, open: usize, secret: usize)
     requires { ⌜ (pages ≤ 33) × (fram ≤ 131080) × («open» ≤ 4100) × (secret ≤ 4100) ⌝ }
@@ -26,22 +45,14 @@ fn try_first_save(name: &[u8], pages: usize, fram: usize, open: usize, secret: u
     let ring = [0xFFu8; 1056];
     let image = [0u8; 131_080];
     let bytes = [0u8; 4100];
-    let mut staging = [0u8; 65_540];
-    let started = first_save(
+    begin(
+        name,
         pages,
-        2,
         part(&ring, 0, 32 * pages),
         part(&image, 0, fram),
-        &key(),
-        &[1u8; 12],
-        &starting_tag(),
         part(&bytes, 0, open),
         part(&bytes, 0, secret),
-        &mut staging,
     );
-    let start = started.start;
-    print(name);
-    print_start(start);
 }
 
 // A ring of 4 pages of 2 slots, where pages 0 and 2 are not blank.

@@ -13,6 +13,7 @@ use crate::values::starting_tag;
 use keeper::Advanced;
 use keeper::Job;
 use keeper::Looked;
+use keeper::PoweredUp;
 use keeper::Session;
 use keeper::Start;
 use keeper::Started;
@@ -87,16 +88,18 @@ fn carry_out(
     }
 }
 
-pub fn do_first_save(
-    value: u8,
-    nonce: u8,
-    advances: usize,
-    ring: &mut [u8],
-    fram: &mut [u8],
-) -> Session {
-    print_number(b"first save of ", value as usize);
-    let mut staging = [0u8; 64];
-    let started = keeper::first_save(
+// A session that no call handed out.
+pub fn no_session() -> Session {
+    Session {
+        page: 0,
+        slot: 0,
+        latest: [0u8; 16],
+        tag: [0u8; 16],
+    }
+}
+
+fn start_first_save(value: u8, nonce: u8, ring: &[u8], fram: &[u8], staging: &mut [u8]) -> Started {
+    keeper::first_save(
         PAGES,
         SLOTS,
         ring,
@@ -106,22 +109,45 @@ pub fn do_first_save(
         &starting_tag(),
         &[value; 8],
         &[value; 4],
-        &mut staging,
-    );
+        staging,
+    )
+}
+
+pub fn do_first_save(
+    value: u8,
+    nonce: u8,
+    advances: usize,
+    ring: &mut [u8],
+    fram: &mut [u8],
+) -> Session {
+    print_number(b"first save of ", value as usize);
+    let mut staging = [0u8; 64];
+    let started = start_first_save(value, nonce, ring, fram, &mut staging);
     let none = no_session();
     let next = carry_out(started, none, advances, ring, fram, &staging);
     print_memories(ring, fram);
     next
 }
 
-// A session that no call handed out.
-pub fn no_session() -> Session {
-    Session {
-        page: 0,
-        slot: 0,
-        latest: [0u8; 16],
-        tag: [0u8; 16],
-    }
+fn start_save(
+    session: Session,
+    value: u8,
+    nonce: u8,
+    ring: &[u8],
+    fram: &[u8],
+    staging: &mut [u8],
+) -> Started {
+    session.save(
+        PAGES,
+        SLOTS,
+        ring,
+        fram,
+        &key(),
+        &[nonce; 12],
+        &[value; 8],
+        &[value; 4],
+        staging,
+    )
 }
 
 pub fn do_save(
@@ -134,27 +160,56 @@ pub fn do_save(
 ) -> Session {
     print_number(b"save of ", value as usize);
     let mut staging = [0u8; 64];
-    let started = session.save(
+    let started = start_save(session, value, nonce, ring, fram, &mut staging);
+    let next = carry_out(started, session, advances, ring, fram, &staging);
+    print_memories(ring, fram);
+    next
+}
+
+fn start_power_up(
+    nonce: u8,
+    ring: &[u8],
+    fram: &[u8],
+    staging: &mut [u8],
+    state: &mut [u8],
+) -> PoweredUp {
+    keeper::power_up(
         PAGES,
         SLOTS,
         ring,
         fram,
         &key(),
         &[nonce; 12],
-        &[value; 8],
-        &[value; 4],
-        &mut staging,
-    );
-    let next = carry_out(started, session, advances, ring, fram, &staging);
-    print_memories(ring, fram);
-    next
+        staging,
+        state,
+    )
 }
 
-fn print_resumed(state: &[u8], length: usize) {
-    if length > 0 {
+// Runs the job of a power-up, and prints the secret part that the state begins with.
+fn carry_on(
+    powered: PoweredUp,
+    session: Session,
+    advances: usize,
+    ring: &mut [u8],
+    fram: &mut [u8],
+    staging: &[u8],
+    state: &[u8],
+) -> Session {
+    let start = powered.start;
+    let job = powered.job;
+    let next = carry_out(
+        Started { start, job },
+        session,
+        advances,
+        ring,
+        fram,
+        staging,
+    );
+    if powered.length > 0 {
         print(b"; state ");
-        print_front(state, length);
+        print_front(state, powered.length);
     }
+    next
 }
 
 pub fn do_power_up(
@@ -167,27 +222,8 @@ pub fn do_power_up(
     print(b"power-up");
     let mut staging = [0u8; 64];
     let mut state = [0u8; 4096];
-    let p = keeper::power_up(
-        PAGES,
-        SLOTS,
-        ring,
-        fram,
-        &key(),
-        &[nonce; 12],
-        &mut staging,
-        &mut state,
-    );
-    let start = p.start;
-    let job = p.job;
-    let next = carry_out(
-        Started { start, job },
-        session,
-        advances,
-        ring,
-        fram,
-        &staging,
-    );
-    print_resumed(&state, p.length);
+    let powered = start_power_up(nonce, ring, fram, &mut staging, &mut state);
+    let next = carry_on(powered, session, advances, ring, fram, &staging, &state);
     print_memories(ring, fram);
     next
 }
