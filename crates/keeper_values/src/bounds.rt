@@ -1,4 +1,5 @@
-// Document 01's bench values of the limits: what a first save says to a number of pages, a FRAM and parts of given lengths.
+// Document 01's bench values of the limits: what a first save says to a number of pages, a FRAM and parts of given lengths, and a
+// power-up to a ring whose pages that are not blank do not follow each other.
 use crate::print::print;
 use crate::print::print_stop;
 use crate::values::key;
@@ -19,6 +20,7 @@ fn print_start(start: Start) {
     }
 }
 
+// Begins a first save and prints what it says; staging is long enough for every FRAM that is tried.
 fn begin(name: &[u8], pages: usize, ring: &[u8], fram: &[u8], open: &[u8], secret: &[u8]) {
     let mut staging = [0u8; 65_540];
     let started = first_save(
@@ -56,7 +58,7 @@ fn try_first_save(name: &[u8], pages: usize, fram: usize, open: usize, secret: u
 }
 
 // A ring of 4 pages of 2 slots, where pages 0 and 2 are not blank.
-fn try_parted_ring() {
+pub fn show_parted_ring() {
     let mut ring = [0xFFu8; 128];
     ring[0] = 0;
     ring[64] = 0;
@@ -102,8 +104,4 @@ pub fn show_part_bounds() {
     try_first_save(b"secret part of 4096 bytes", 3, 131_072, 0, 4096);
     try_first_save(b"secret part of 4097 bytes", 3, 131_072, 0, 4097);
     try_first_save(b"secret part of 4100 bytes", 3, 131_072, 0, 4100);
-}
-
-pub fn show_ring_bounds() {
-    try_parted_ring();
 }

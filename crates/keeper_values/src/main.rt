@@ -19,7 +19,7 @@ fn main() {
     bounds::show_fram_bounds();
     bounds::show_page_bounds();
     bounds::show_part_bounds();
-    bounds::show_ring_bounds();
+    bounds::show_parted_ring();
     let mut ring = [0xFFu8; 96];
     let mut fram = [0u8; 128];
     life::live(&mut ring, &mut fram);
