@@ -3,11 +3,13 @@ use super::layout::EMPTY_LENGTH;
 use super::layout::HEAD_LENGTH;
 use gcm::counter_mode::encrypt;
 use gcm::tag::tag_of;
+use octets::kind_of;
 use octets::limits::PART_LIMIT;
 use octets::limits::RESTART_LIMIT;
 use octets::limits::TAG_LENGTH;
 use octets::part;
 use octets::same;
+use octets::value_of;
 use octets::word_at;
 ghost use mathlib.Core.Path.{_≡_};
 ghost use mathlib.Core.Bool.{true};
@@ -16,7 +18,6 @@ ghost use Prim.Native.Nat.{ℕ, _+_, _-_, _*_, _^_, _<_, _≤_};
 ghost use lib.ListN.{length};
 ghost use Rattle.octets.specs.Limits.{nonce-length};
 ghost use Rattle.octets.specs.Octets.{part, put};
-ghost use Rattle.octets.specs.Word.{kind-of, value-of};
 ghost use Rattle.aes.specs.Word.{RoundTable};
 ghost use Rattle.aes.specs.Cipher.{cipher, aes};
 ghost use Rattle.gcm.specs.Gcm.{AE-tag};
@@ -30,18 +31,6 @@ pub struct Head {
     pub open: usize,
     pub secret: usize,
     pub restarts: usize,
-}
-
-fn kind_of(w: u32) -> u32
-    ensures { λ r. ⌜ r ≡ kind-of w ⌝ }
-{
-    w / 0x4000_0000
-}
-
-fn value_of(w: u32) -> usize
-    ensures { λ r. ⌜ (r ≡ value-of w) × (r < 2 ^ 30) ⌝ }
-{
-    (w % 0x4000_0000) as usize
 }
 
 pub fn read_head(half: &[u8]) -> Head

@@ -4,10 +4,10 @@ use super::layout::HEAD_LENGTH;
 use super::layout::WORDS_LENGTH;
 use gcm::counter_mode::encrypt;
 use octets::copy;
-use octets::word_bytes;
+use octets::word_of;
 ghost use mathlib.Core.Path.{_≡_};
 ghost use mathlib.Core.List.{List, _++_};
-ghost use Prim.Native.Nat.{ℕ, _+_, _-_, _*_, _^_, _≤_, _<_};
+ghost use Prim.Native.Nat.{ℕ, _+_, _-_, _^_, _≤_, _<_};
 ghost use lib.ListN.{length};
 ghost use Rattle.octets.specs.Limits.{nonce-length, part-limit, restart-limit, tag-length};
 ghost use Rattle.octets.specs.Octets.{part, put};
@@ -23,7 +23,7 @@ fn write_word(staging: &mut [u8], i: usize, kind: u32, value: usize)
     requires { ⌜ (kind < 4) × (value < 2 ^ 30) × (i + 4 ≤ length (now staging)) ⌝ }
     ensures { λ _. ⌜ now (staging .exit) ≡ put (now (staging .entry)) i (word kind value) ⌝ }
 {
-    let bytes = word_bytes(kind * 0x4000_0000 + value as u32);
+    let bytes = word_of(kind, value);
     copy(&bytes, &mut staging[i..]);
 }
 

@@ -2,10 +2,10 @@
 pub mod limits;
 
 ghost use mathlib.Core.Path.{_≡_};
-ghost use Prim.Native.Nat.{_+_, _≤_, _<_};
+ghost use Prim.Native.Nat.{_+_, _^_, _≤_, _<_};
 ghost use lib.ListN.{length, replicate};
 ghost use Rattle.octets.specs.Octets.{part, put, same, blank, bytes};
-ghost use Rattle.octets.specs.Word.{word-at};
+ghost use Rattle.octets.specs.Word.{word-at, kind-of, value-of, word};
 
 // The n bytes from offset i.
 pub fn part(s: &[u8], i: usize, n: usize) -> &[u8]
@@ -95,4 +95,26 @@ pub fn word_bytes(w: u32) -> [u8; 4]
         (w / 256 % 256) as u8,
         (w % 256) as u8,
     ]
+}
+
+// The kind of a word: its top two bits.
+pub fn kind_of(w: u32) -> u32
+    ensures { λ r. ⌜ r ≡ kind-of w ⌝ }
+{
+    w / 0x4000_0000
+}
+
+// The value of a word: its low 30 bits.
+pub fn value_of(w: u32) -> usize
+    ensures { λ r. ⌜ (r ≡ value-of w) × (r < 2 ^ 30) ⌝ }
+{
+    (w % 0x4000_0000) as usize
+}
+
+// The four bytes of the word of a kind and a value.
+pub fn word_of(kind: u32, value: usize) -> [u8; 4]
+    requires { ⌜ (kind < 4) × (value < 2 ^ 30) ⌝ }
+    ensures { λ r. ⌜ r ≡ word kind value ⌝ }
+{
+    word_bytes(kind * 0x4000_0000 + value as u32)
 }

@@ -7,6 +7,7 @@ use octets::limits::NONCE_LENGTH;
 use octets::limits::SLOT_LENGTH;
 use octets::part;
 use octets::same;
+use octets::value_of;
 use octets::word_at;
 ghost use mathlib.Core.Path.{_≡_};
 ghost use mathlib.Core.Bool.{false};
@@ -110,7 +111,7 @@ pub fn half_named(slot: &[u8]) -> usize
     requires { ⌜ slot-length ≤ length (now slot) ⌝ }
     ensures { λ r. ⌜ r ≡ half-named (now (slot .entry)) ⌝ }
 {
-    (word_at(slot, NONCE_LENGTH) % 0x4000_0000) as usize
+    value_of(word_at(slot, NONCE_LENGTH))
 }
 
 // Stop 8: a page, slot or record is not the newest.

@@ -5,9 +5,11 @@ use crate::pages::next_page;
 use crate::pages::page_at;
 use crate::pages::page_is_blank;
 use octets::blank;
+use octets::kind_of;
 use octets::limits::NONCE_LENGTH;
 use octets::limits::SLOT_LENGTH;
 use octets::part;
+use octets::value_of;
 use octets::word_at;
 ghost use mathlib.Core.Path.{_≡_};
 ghost use mathlib.Core.Bool.{false};
@@ -24,7 +26,7 @@ fn is_record(slot: &[u8]) -> bool
     ensures { λ r. ⌜ r ≡ is-record (now (slot .entry)) ⌝ }
 {
     let place = word_at(slot, NONCE_LENGTH);
-    (place / 0x4000_0000 == 1) & (place % 0x4000_0000 < 2)
+    (kind_of(place) == 1) & (value_of(place) < 2)
 }
 
 // How many of a page's slots are records, from the first on, up to the first that is none.

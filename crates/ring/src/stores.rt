@@ -3,7 +3,7 @@ use octets::copy;
 use octets::fill;
 use octets::limits::NONCE_LENGTH;
 use octets::limits::SLOT_LENGTH;
-use octets::word_bytes;
+use octets::word_of;
 ghost use mathlib.Core.Path.{_≡_};
 ghost use Prim.Native.Nat.{_+_, _*_, _≤_, _<_};
 ghost use lib.ListN.{length};
@@ -27,7 +27,7 @@ pub fn record_of(nonce: [u8; 12], half: usize) -> [u8; 16]
 {
     let mut r = [0u8; 16];
     copy(&nonce, &mut r);
-    let place = word_bytes(0x4000_0000 + half as u32);
+    let place = word_of(1, half);
     copy(&place, &mut r[NONCE_LENGTH..]);
     r
 }
