@@ -1,5 +1,6 @@
--- Document 01's limits and lengths, each named here and, for the code, in src/limits.rt, and nowhere else written as a numeral,
--- but for Layout.antt of checkpoint, which gives document 01's offsets as numbers of their own, and the standards' own numbers in aes and gcm.
+-- Document 01's limits and lengths, each named here and, for the code, in src/limits.rt. Elsewhere in the libraries one of them stands as a
+-- numeral only in the types of arrays (a nonce of 12 bytes, a tag or a slot of 16), in Layout.antt of checkpoint, which gives document 01's
+-- offsets as numbers of their own, and where aes and gcm have the standards' numbers.
 -- Lengths are in bytes; a word is 4.
 use Prim.Native.Nat.{ℕ}
 
