@@ -4,5 +4,4 @@ pub mod SealedLaws
 pub mod Offsets
 pub mod HalfLaws
 pub mod StoredLaws
-pub mod Staged
 pub mod Sealing

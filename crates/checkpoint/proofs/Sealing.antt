@@ -13,7 +13,7 @@ use Rattle.gcm.proofs.Laws.{length-text}
 use Rattle.checkpoint.specs.Checkpoint.{Checkpoint, head-words, words, head-length, head, associated, own-tag, sealed}
 use Rattle.checkpoint.specs.Prepared.{checkpoint-of}
 use Rattle.checkpoint.proofs.SealedLaws.{length-head, length-associated}
-use Rattle.checkpoint.proofs.Staged.{put-on}
+use Rattle.octets.proofs.Lent.{put-on}
 
 module _ (key nonce staging open-part secret previous : List ℕ) (restarts : ℕ) (CIPH : List ℕ → List ℕ) (e : CIPH ≡ aes key) (long : length previous ≡ tag-length) where
   abbrev c : Checkpoint

@@ -61,6 +61,14 @@ pub fn copy(from: &[u8], to: &mut [u8])
     }
 }
 
+// Copies the bytes of `from` over those of `to` from offset i on.
+pub fn copy_at(from: &[u8], to: &mut [u8], i: usize)
+    requires { ⌜ i + length (now from) ≤ length (now to) ⌝ }
+    ensures { λ _. ⌜ now (to .exit) ≡ put (now (to .entry)) i (now (from .entry)) ⌝ }
+{
+    copy(from, &mut to[i..]);
+}
+
 // Sets every byte to b.
 pub fn fill(s: &mut [u8], b: u8)
     ensures { λ _. ⌜ now (s .exit) ≡ replicate (length (now (s .entry))) b ⌝ }

@@ -11,7 +11,7 @@ use Rattle.octets.specs.Word.{word}
 use Rattle.octets.proofs.Laws.{length-put}
 use Rattle.octets.proofs.Numbers.{length-word}
 use Rattle.checkpoint.specs.Checkpoint.{words, head-words}
-use Rattle.checkpoint.proofs.Staged.{lent, put-on}
+use Rattle.octets.proofs.Lent.{lent, put-on}
 use Rattle.checkpoint.proofs.staging.write_head.Statement.{statement}
 use Rattle.checkpoint.proofs.staging.write_head.Tie as tie
 

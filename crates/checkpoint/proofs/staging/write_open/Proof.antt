@@ -4,7 +4,7 @@ use native.Mathlib.Omega.{arith}
 use lib.ListN.{length}
 use borrow.Author.Needs.{needs}
 use Rattle.checkpoint.specs.Checkpoint.{head-length}
-use Rattle.checkpoint.proofs.Staged.{lent}
+use Rattle.octets.proofs.Lent.{lent}
 use Rattle.checkpoint.proofs.staging.write_open.Statement.{statement}
 use Rattle.checkpoint.proofs.staging.write_open.Tie as tie
 

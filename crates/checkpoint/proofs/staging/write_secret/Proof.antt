@@ -6,7 +6,7 @@ use borrow.Author.Needs.{needs}
 use Rattle.aes.specs.Cipher.{cipher}
 use Rattle.gcm.specs.Gcm.{AE-text}
 use Rattle.gcm.proofs.Laws.{length-text}
-use Rattle.checkpoint.proofs.Staged.{lent}
+use Rattle.octets.proofs.Lent.{lent}
 use Rattle.checkpoint.proofs.staging.write_secret.Statement.{statement}
 use Rattle.checkpoint.proofs.staging.write_secret.Tie as tie
 

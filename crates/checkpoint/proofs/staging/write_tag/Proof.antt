@@ -3,7 +3,7 @@ use Prim.Native.Nat.{_-_}
 use native.Mathlib.Omega.{arith}
 use lib.ListN.{length}
 use borrow.Author.Needs.{needs}
-use Rattle.checkpoint.proofs.Staged.{lent}
+use Rattle.octets.proofs.Lent.{lent}
 use Rattle.checkpoint.proofs.staging.write_tag.Statement.{statement}
 use Rattle.checkpoint.proofs.staging.write_tag.Tie as tie
 

@@ -7,7 +7,7 @@ use borrow.Author.Needs.{needs}
 use Rattle.octets.specs.Octets.{put}
 use Rattle.octets.specs.Word.{word}
 use Rattle.octets.proofs.Numbers.{length-word}
-use Rattle.checkpoint.proofs.Staged.{lent}
+use Rattle.octets.proofs.Lent.{lent}
 use Rattle.checkpoint.proofs.staging.write_word.Statement.{statement}
 use Rattle.checkpoint.proofs.staging.write_word.Tie as tie
 
