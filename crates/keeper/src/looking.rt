@@ -1,5 +1,4 @@
 // Look and its companion (document 01, "What the unit calls"). Both store nothing.
-use crate::memories::check_memories;
 use crate::types::Looked;
 use checkpoint::fram::half_at;
 use checkpoint::half::Head;
@@ -7,6 +6,7 @@ use checkpoint::half::read_head;
 use checkpoint::layout::HEAD_LENGTH;
 use checkpoint::under::good_tag_under;
 use gcm::key_wrong;
+use jobs::check_memories;
 use octets::limits::NONCE_LENGTH;
 use octets::part;
 use ring::half_named;
