@@ -5,13 +5,14 @@ use mathlib.Core.List.{List}
 use Rattle.stops.proofs.Laws.{stop-number-injective}
 use Rattle.protocol.specs.Operations as operations
 use Rattle.jobs.proofs.ViewLaws.{job-one}
-use Rattle.keeper.specs.View.{view-start, view-started, view-powered-up, view-looked}
+use Rattle.keeper.specs.View.{view-start, view-started, view-powered-up, view-looked, view-stretch}
 use Rattle.keeper.specs.declared.types.Start.{Start}
 use Rattle.keeper.specs.declared.types.Start.the-variants.{Begun, Stopped}
 use Rattle.keeper.specs.declared.types.Started.{Started}
 use Rattle.keeper.specs.declared.types.PoweredUp.{PoweredUp}
 use Rattle.keeper.specs.declared.types.Looked.{Looked}
 use Rattle.keeper.specs.declared.types.Looked.the-variants.{Restarts, Unseen}
+use Rattle.keeper.specs.declared.types.Seen.{Seen}
 
 pub start-one : (x y : Start) → view-start x ≡ view-start y → x ≡ y
 start-one Begun Begun e = refl
@@ -24,6 +25,9 @@ looked-one (Restarts m) (Restarts n) e = ap Restarts (cc)
 looked-one (Restarts m) (Unseen t) e = cc
 looked-one (Unseen s) (Restarts n) e = cc
 looked-one (Unseen s) (Unseen t) e = ap Unseen (stop-number-injective s t (cc))
+
+pub seen-one : (x y : Seen) → view-looked (x .looked) ≡ view-looked (y .looked) → view-stretch x ≡ view-stretch y → x ≡ y
+seen-one x y e f = let l = looked-one (x .looked) (y .looked) e in λ i. record { looked = l i; offset = f i .offset; length = f i .length }
 
 pub started-one : (x y : Started) (staging staging′ : List ℕ) → view-started x staging ≡ view-started y staging′ → (x ≡ y) × (staging ≡ staging′)
 started-one x y staging staging′ e =

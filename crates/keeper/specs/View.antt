@@ -14,6 +14,7 @@ use Rattle.keeper.specs.declared.types.Started.{Started}
 use Rattle.keeper.specs.declared.types.PoweredUp.{PoweredUp}
 use Rattle.keeper.specs.declared.types.Looked.{Looked}
 use Rattle.keeper.specs.declared.types.Looked.the-variants.{Restarts, Unseen}
+use Rattle.keeper.specs.declared.types.Seen.{Seen}
 
 -- ---- answers, with what the lent buffers then hold
 
@@ -31,6 +32,9 @@ view-powered-up a staging state = record { answer = view-start (a .start); job =
 abbrev pub view-looked : Looked → types.Looked
 view-looked (Restarts n) = types.Restarts n
 view-looked (Unseen s) = types.Unseen (stop-number s)
+
+abbrev pub view-stretch : Seen → types.Stretch
+view-stretch s = record { offset = s .offset; length = s .length }
 
 -- ---- arguments
 

@@ -26,3 +26,10 @@ pub enum Looked {
     Restarts(usize),
     Unseen(Stop),
 }
+
+// What look answers, and the stretch of the FRAM image that its companion hands back: an empty one where look stops.
+pub struct Seen {
+    pub looked: Looked,
+    pub offset: usize,
+    pub length: usize,
+}
