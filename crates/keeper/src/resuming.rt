@@ -1,11 +1,6 @@
 // Power-up (document 01, "What the unit calls"): the newest checkpoint opened, and sealed anew with one restart more. Everything that can
 // stop it is tried before a byte of staging or state is written.
-use crate::job::no_job;
-use crate::memories::check_memories;
 use crate::saves::nonce_array;
-use crate::types::Job;
-use crate::types::Origin;
-use crate::types::Phase;
 use crate::types::PoweredUp;
 use crate::types::Start;
 use aes::key::expand_key;
@@ -23,6 +18,11 @@ use gcm::key_wrong;
 use gcm::nonce_wrong;
 use gcm::tag::hash_steps;
 use gcm::tag::wipe_steps;
+use jobs::Job;
+use jobs::Origin;
+use jobs::Phase;
+use jobs::check_memories;
+use jobs::no_job;
 use octets::fill;
 use octets::limits::NONCE_LENGTH;
 use octets::limits::PART_LIMIT;
@@ -51,7 +51,8 @@ ghost use Rattle.checkpoint.specs.Half.{stored-length, good-head, good-tag, sto
 ghost use Rattle.checkpoint.specs.Prepared.{Prepared};
 ghost use Rattle.protocol.specs.Types.{PowerUp};
 ghost use Rattle.protocol.specs.Operations.{begin, job-of, resumed, first-phase, power-up};
-ghost use Rattle.keeper.specs.View.{view-phase, view-powered-up, powers-up};
+ghost use Rattle.jobs.specs.View.{view-phase};
+ghost use Rattle.keeper.specs.View.{view-powered-up, powers-up};
 ghost use Rattle.keeper.specs.Stages.{stopped, power-up-buffers, power-up-ring, half-lines, HeadOf, Reseals};
 ghost use Rattle.keeper.specs.Resealing.{Outcome};
 
