@@ -1,2 +1,3 @@
 -- Laws of the calls.
+mod BytesLaws
 mod SealLaws
