@@ -17,6 +17,7 @@ use Rattle.checkpoint.specs.Fram.{fram-wrong, half-length, half-at}
 use Rattle.checkpoint.proofs.FramLaws.{half-within, half-long}
 use Rattle.checkpoint.proofs.StoredLaws.{head-facts}
 use Rattle.checkpoint.specs.Half.{open-length, stored-restarts}
+use Rattle.protocol.specs.Types.{Restarts, Unseen}
 use Rattle.protocol.specs.Operations.{newest-half, look-stop, look, look-by, open-stretch, stretch-by}
 use Rattle.keeper.specs.View.{view-looked, view-stretch, looks}
 use Rattle.keeper.specs.Stages.{look-buffers, look-half}
@@ -26,6 +27,17 @@ use Rattle.keeper.specs.declared.types.Seen.{Seen}
 -- a stop is not none
 pub stopped-not-none : {A : Type 0} {s : ℕ} → some s ≡ none → A
 stopped-not-none e = let z : _≡_ {A = ℕ} 0 1 = cc in absurd (omega arith)
+
+-- what an answer says of the stop
+pub by-unseen : (o : Option ℕ) (r s : ℕ) → Unseen s ≡ look-by o r → o ≡ some s
+unfolding look-by
+by-unseen (some t) r s e = ap some (cc)
+by-unseen none r s e = let z : _≡_ {A = ℕ} 0 1 = cc in absurd (omega arith)
+
+pub by-restarts : (o : Option ℕ) (r n : ℕ) → Restarts n ≡ look-by o r → (none ≡ o) × (n ≡ r)
+unfolding look-by
+by-restarts (some t) r n e = let z : _≡_ {A = ℕ} 0 1 = cc in absurd (omega arith)
+by-restarts none r n e = (refl, cc)
 
 module _ (pages slots : ℕ) (ring fram key : List ℕ) where
   abbrev read : Newest

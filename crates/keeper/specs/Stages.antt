@@ -61,6 +61,14 @@ power-up-buffers ring fram a =
 abbrev pub power-up-ring : (ring : List ℕ) → ℕ → Newest → List ℕ → List (ℕ × Bool)
 power-up-ring ring slots n nonce = (6, is-blank n) ∷ (7, is-unreadable n) ∷ (10, nonce-used ring slots n nonce) ∷ []
 
+-- those of power-up about the half that a record names
+abbrev pub power-up-half : (key newest fram : List ℕ) → List (ℕ × Bool)
+power-up-half key newest fram =
+    let half = half-at fram (half-named newest) in
+    (11, not (good-head half)) ∷
+    (12, not (good-tag key (take nonce-length newest) half)) ∷
+    (13, eqb (stored-restarts half) restart-limit) ∷ []
+
 -- those of power-up about the half behind a good head, whose record has the nonce `latest`
 abbrev pub half-lines : (key latest half : List ℕ) → List (ℕ × Bool)
 half-lines key latest half = (12, not (good-tag key latest half)) ∷ (13, eqb (stored-restarts half) restart-limit) ∷ []

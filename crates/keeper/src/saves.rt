@@ -37,7 +37,7 @@ ghost use Rattle.ring.specs.View.{newest};
 ghost use Rattle.checkpoint.specs.Checkpoint.{sealed-length};
 ghost use Rattle.checkpoint.specs.Prepared.{checkpoint-of};
 ghost use Rattle.protocol.specs.Types.{Words, Save};
-ghost use Rattle.protocol.specs.Operations.{begin, job-of, parts-wrong, first-save-stop, first-save, save};
+ghost use Rattle.protocol.specs.Operations.{begin, job-of, parts-wrong, first-save-stop, first-save, save-stop, save};
 ghost use Rattle.jobs.specs.View.{view-session};
 ghost use Rattle.keeper.specs.View.{view-started, save-arguments, first-saves, saves};
 ghost use Rattle.keeper.specs.Stages.{save-buffers, save-ring, stopped};
@@ -108,7 +108,7 @@ fn begin_save(
 }
 
 // Stops 1 to 4 of save.
-fn check_save(
+fn check_save_buffers(
     pages: usize,
     slots: usize,
     ring: &[u8],
@@ -128,8 +128,8 @@ fn check_save(
         .stop_if(buffers, Stop::BufferSize)
 }
 
-// Stops 1 to 5 of first save.
-fn check_first_save(
+// Whether a first save would stop, by 1 to 5. Nothing is stored.
+pub fn first_save_check(
     pages: usize,
     slots: usize,
     ring: &[u8],
@@ -166,7 +166,7 @@ pub fn first_save(
 ) -> Started
     ensures { λ r. ⌜ view-started r (now (staging .exit)) ≡ first-save (now (ring .entry)) (now (fram .entry)) (first-saves (save-arguments pages slots (now (key .entry)) (now (nonce .entry)) (now («open» .entry)) (now (secret .entry)) (now (staging .entry))) (now («starting_tag» .entry))) ⌝ }
 {
-    let check = check_first_save(
+    let check = first_save_check(
         pages,
         slots,
         ring,
@@ -185,7 +185,7 @@ pub fn first_save(
 }
 
 // Stops 6 to 10 of save, on a ring that reads as `found`.
-fn check_ring(
+fn check_save_ring(
     session: Session,
     pages: usize,
     slots: usize,
@@ -215,6 +215,31 @@ fn check_ring(
         .stop_if(used, Stop::NonceUsed)
 }
 
+// Whether a save would stop, by 1 to 4 or 6 to 10. Nothing is stored.
+pub fn save_check(
+    session: Session,
+    pages: usize,
+    slots: usize,
+    ring: &[u8],
+    fram: &[u8],
+    key: &[u8],
+    nonce: &[u8],
+    open: &[u8],
+    secret: &[u8],
+    staging: &[u8],
+) -> Check
+    ensures { λ r. ⌜ check-number r ≡ save-stop (now (ring .entry)) (now (fram .entry)) (saves (save-arguments pages slots (now (key .entry)) (now (nonce .entry)) (now («open» .entry)) (now (secret .entry)) (now (staging .entry))) session) ⌝ }
+{
+    let check = check_save_buffers(pages, slots, ring, fram, key, nonce, open, secret, staging);
+    match check {
+        Check::Stopped(stop) => Check::Stopped(stop),
+        Check::Pass => {
+            let newest = read_ring(ring, pages, slots);
+            check_save_ring(session, pages, slots, ring, newest, nonce)
+        }
+    }
+}
+
 // Where stops 1 to 4 do not apply.
 fn save_on(
     session: Session,
@@ -232,7 +257,7 @@ fn save_on(
     ensures { λ r. ⌜ view-started r (now (staging .exit)) ≡ save (now (ring .entry)) (now (fram .entry)) (saves (save-arguments pages slots (now (key .entry)) (now (nonce .entry)) (now («open» .entry)) (now (secret .entry)) (now (staging .entry))) session) ⌝ }
 {
     let newest = read_ring(ring, pages, slots);
-    let check = check_ring(session, pages, slots, ring, newest, nonce);
+    let check = check_save_ring(session, pages, slots, ring, newest, nonce);
     match check {
         Check::Stopped(stop) => not_begun(stop),
         Check::Pass => {
@@ -260,7 +285,7 @@ pub fn save(
 ) -> Started
     ensures { λ r. ⌜ view-started r (now (staging .exit)) ≡ save (now (ring .entry)) (now (fram .entry)) (saves (save-arguments pages slots (now (key .entry)) (now (nonce .entry)) (now («open» .entry)) (now (secret .entry)) (now (staging .entry))) session) ⌝ }
 {
-    let check = check_save(pages, slots, ring, fram, key, nonce, open, secret, staging);
+    let check = check_save_buffers(pages, slots, ring, fram, key, nonce, open, secret, staging);
     match check {
         Check::Stopped(stop) => not_begun(stop),
         Check::Pass => save_on(

@@ -12,7 +12,7 @@ returns c =
     let a = c .before .before .before .before .before .before .before .before .before .before .before .before .before .args in
     let call = saves (save-arguments (a .pages) (a .slots) (a .key .now) (a .nonce .now) (a .«open» .now) (a .secret .now) (a .staging .now)) (a .session) in
     save-stops (a .ring .now) (a .fram .now) call _ (c .not-begun .ensures (a .staging .now))
-    (buffers-stop (a .ring .now) (a .fram .now) call (sym (c .before .before .before .before .check-save .ensures) ∙ ap check-number (c .before .before .check .given .1)))
+    (buffers-stop (a .ring .now) (a .fram .now) call (sym (c .before .before .before .before .check-save-buffers .ensures) ∙ ap check-number (c .before .before .check .given .1)))
 
 pub save-spec : {M : Type 1} → statement M
 save-spec =
@@ -22,7 +22,7 @@ save-spec =
     (λ c. search needs)
     (λ c κs. search needs)
     (λ c. search needs)
-    (λ c κs. sym (c .before .before .before .check-save .ensures) ∙ ap check-number (c .before .enum-told .given .1))
+    (λ c κs. sym (c .before .before .before .check-save-buffers .ensures) ∙ ap check-number (c .before .enum-told .given .1))
     (λ c. search needs)
     returns
     (λ c. search needs)

@@ -28,11 +28,11 @@ call c =
 buffers : (c : tie.After-read-ring) → Buffers (start c .args .ring .now) (start c .args .fram .now) (call c .arguments)
 buffers c = buffers-pass (start c .args .ring .now) (start c .args .fram .now) (call c .arguments) (start c .pre)
 
-ring-check : (c : tie.After-check-ring) → let read = c .before in
-    check-number (c .check-ring .result) ≡ first-of (ring-lines (start read .args .ring .now) (start read .args .fram .now) (call read))
+ring-check : (c : tie.After-check-save-ring) → let read = c .before in
+    check-number (c .check-save-ring .result) ≡ first-of (ring-lines (start read .args .ring .now) (start read .args .fram .now) (call read))
 ring-check c =
     let a = start (c .before) .args in
-    c .check-ring .ensures ∙ ap (λ (n : Newest). first-of (save-ring (a .ring .now) (a .slots) n (view-session (a .session)) (a .nonce .now))) (c .before .read-ring .ensures .0)
+    c .check-save-ring .ensures ∙ ap (λ (n : Newest). first-of (save-ring (a .ring .now) (a .slots) n (view-session (a .session)) (a .nonce .now))) (c .before .read-ring .ensures .0)
 
 passed : (c : tie.After-enum-told) → let read = c .before .before .before in
     first-of (ring-lines (start read .args .ring .now) (start read .args .fram .now) (call read)) ≡ none

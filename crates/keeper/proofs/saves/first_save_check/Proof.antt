@@ -1,4 +1,4 @@
--- `keeper::saves::check_first_save` meets its contract. Assumes nothing.
+-- `keeper::saves::first_save_check` meets its contract. Assumes nothing.
 use mathlib.Core.Bool.{_||_}
 use lib.Dec.{ltb}
 use lib.ListN.{length}
@@ -7,8 +7,8 @@ use Rattle.checkpoint.specs.Fram.{half-length}
 use Rattle.protocol.specs.Operations.{staging-wrong}
 use Rattle.keeper.specs.View.{save-arguments, first-saves}
 use Rattle.keeper.proofs.SaveLaws.{first-tried}
-use Rattle.keeper.proofs.saves.check_first_save.Statement.{statement}
-use Rattle.keeper.proofs.saves.check_first_save.Tie as tie
+use Rattle.keeper.proofs.saves.first_save_check.Statement.{statement}
+use Rattle.keeper.proofs.saves.first_save_check.Tie as tie
 
 returns : tie.Need-returns
 unfolding staging-wrong half-length
@@ -22,6 +22,6 @@ returns c =
     (λ i. c .before .before .before .before .before .parts-wrong .ensures i || ltb (length (a .staging .now)) (half-length (a .fram .now)))
     (c .before .blank .ensures) (c .before .before .before .stop-if .ensures) (c .before .before .stop-if2 .ensures) (c .stop-if3 .ensures)
 
-pub check-first-save-spec : {M : Type 1} → statement M
-check-first-save-spec =
+pub first-save-check-spec : {M : Type 1} → statement M
+first-save-check-spec =
     tie.close (tie.spec (λ c κs. search needs) (λ c κs. search needs) (λ c κs. search needs) (λ c κs. search needs) (λ c κs. search needs) (λ c κs. search needs) (λ c κs. search needs) (λ c κs. search needs) (λ c κs. search needs) returns)

@@ -1,4 +1,4 @@
--- `keeper::saves::check_save` meets its contract. Assumes nothing.
+-- `keeper::saves::check_save_buffers` meets its contract. Assumes nothing.
 use mathlib.Core.Bool.{_||_}
 use lib.Dec.{ltb}
 use lib.ListN.{length}
@@ -7,8 +7,8 @@ use Rattle.checkpoint.specs.Fram.{half-length}
 use Rattle.protocol.specs.Operations.{staging-wrong}
 use Rattle.keeper.specs.View.{save-arguments}
 use Rattle.keeper.proofs.SaveLaws.{buffers-tried}
-use Rattle.keeper.proofs.saves.check_save.Statement.{statement}
-use Rattle.keeper.proofs.saves.check_save.Tie as tie
+use Rattle.keeper.proofs.saves.check_save_buffers.Statement.{statement}
+use Rattle.keeper.proofs.saves.check_save_buffers.Tie as tie
 
 returns : tie.Need-returns
 unfolding staging-wrong half-length
@@ -21,6 +21,6 @@ returns c =
     (λ i. c .before .before .before .parts-wrong .ensures i || ltb (length (a .staging .now)) (half-length (a .fram .now)))
     (c .before .stop-if .ensures) (c .stop-if2 .ensures)
 
-pub check-save-spec : {M : Type 1} → statement M
-check-save-spec =
+pub check-save-buffers-spec : {M : Type 1} → statement M
+check-save-buffers-spec =
     tie.close (tie.spec (λ c κs. search needs) (λ c κs. search needs) (λ c κs. search needs) (λ c κs. search needs) (λ c κs. search needs) (λ c κs. search needs) returns)

@@ -1,4 +1,4 @@
--- `keeper::saves::check_ring` meets its contract. Assumes nothing.
+-- `keeper::saves::check_save_ring` meets its contract. Assumes nothing.
 use mathlib.Core.Path.{_≡_}
 use mathlib.Core.Bool.{Bool}
 use mathlib.Core.Option.{Option, none}
@@ -12,8 +12,8 @@ use Rattle.protocol.specs.Types.{Session}
 use Rattle.protocol.specs.Operations.{stale}
 use Rattle.jobs.specs.View.{view-session}
 use Rattle.keeper.specs.Stages.{save-ring}
-use Rattle.keeper.proofs.saves.check_ring.Statement.{statement}
-use Rattle.keeper.proofs.saves.check_ring.Tie as tie
+use Rattle.keeper.proofs.saves.check_save_ring.Statement.{statement}
+use Rattle.keeper.proofs.saves.check_save_ring.Tie as tie
 
 five : (ring : List ℕ) (slots : ℕ) (n : Newest) (s : Session) (nonce : List ℕ) (b u t p x : Bool) (o₁ o₂ o₃ o₄ o₅ : Option ℕ)
     → b ≡ is-blank n → u ≡ is-unreadable n → t ≡ not-newest ring slots n (s .page) (s .slot) (s .latest) → p ≡ is-pending n → x ≡ nonce-used ring slots n nonce
@@ -31,8 +31,8 @@ returns c =
     (c .before .before .before .before .before .before .before .is-blank .ensures) (c .before .before .before .before .before .is-unreadable .ensures) (c .before .before .before .before .before .before .before .before .before .not-newest .ensures) (c .before .before .is-pending .ensures) (c .before .before .before .before .before .before .before .before .nonce-used .ensures)
     (c .before .before .before .before .before .before .stop-if .ensures) (c .before .before .before .before .stop-if2 .ensures) (c .before .before .before .stop-if3 .ensures) (c .before .stop-if4 .ensures) (c .stop-if5 .ensures)
 
-pub check-ring-spec : {M : Type 1} → statement M
-check-ring-spec =
+pub check-save-ring-spec : {M : Type 1} → statement M
+check-save-ring-spec =
     tie.close
     (tie.spec
     (λ c. search needs)
