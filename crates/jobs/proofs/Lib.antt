@@ -1,3 +1,4 @@
--- Laws of the views and of the conditions of an advance.
+-- Laws of the views and of the conditions of saves and advances.
 pub mod ViewLaws
 mod AdvanceLaws
+pub mod SaveLaws

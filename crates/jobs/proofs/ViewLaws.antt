@@ -5,7 +5,7 @@ use mathlib.Core.List.{List}
 use Rattle.stops.proofs.Laws.{stop-number-injective}
 use Rattle.protocol.specs.Types as types
 use Rattle.protocol.specs.Operations as operations
-use Rattle.jobs.specs.View.{view-phase, view-origin, view-job, view-session, view-progress, view-advanced, view-moved}
+use Rattle.jobs.specs.View.{view-phase, view-origin, view-job, view-session, view-progress, view-advanced, view-moved, view-start, view-started}
 use Rattle.jobs.specs.declared.types.Phase.{Phase}
 use Rattle.jobs.specs.declared.types.Phase.the-variants.{EraseFirst, Words, Record, EraseAfter, Done}
 use Rattle.jobs.specs.declared.types.Origin.{Origin}
@@ -16,6 +16,9 @@ use Rattle.jobs.specs.declared.types.Progress.{Progress}
 use Rattle.jobs.specs.declared.types.Progress.the-variants.{GoingOn, Saved, Restored, Refused}
 use Rattle.jobs.specs.declared.types.Advanced.{Advanced}
 use Rattle.jobs.specs.declared.types.Moved.{Moved}
+use Rattle.jobs.specs.declared.types.Start.{Start}
+use Rattle.jobs.specs.declared.types.Start.the-variants.{Begun, Stopped}
+use Rattle.jobs.specs.declared.types.Started.{Started}
 
 -- ---- jobs and sessions, made again from what they stand for
 
@@ -93,3 +96,15 @@ moved-one x y j k ring fram ring′ fram′ e =
     let p = progress-one (x .progress) (y .progress) (ap (λ (m : operations.Moved). m .progress) e) in
     let s = session-one (x .session) (y .session) (ap (λ (m : operations.Moved). m .session) e) in
     ((λ i. record { progress = p i; session = s i }), job-one j k (ap (λ (m : operations.Moved). m .job) e), (λ i. e i .ring), (λ i. e i .fram))
+
+pub start-one : (x y : Start) → view-start x ≡ view-start y → x ≡ y
+start-one Begun Begun e = refl
+start-one Begun (Stopped t) e = cc
+start-one (Stopped s) Begun e = cc
+start-one (Stopped s) (Stopped t) e = ap Stopped (stop-number-injective s t (cc))
+
+pub started-one : (x y : Started) (staging staging′ : List ℕ) → view-started x staging ≡ view-started y staging′ → (x ≡ y) × (staging ≡ staging′)
+started-one x y staging staging′ e =
+    let s = start-one (x .start) (y .start) (ap (λ (b : operations.Begin). b .answer) e) in
+    let j = job-one (x .job) (y .job) (ap (λ (b : operations.Begin). b .job) e) in
+    ((λ i. record { start = s i; job = j i }), (λ i. e i .staging))

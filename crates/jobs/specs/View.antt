@@ -1,7 +1,7 @@
--- What jobs and sessions stand for (document 01, "What the unit calls"): for each case of each enum and for each struct the number or value of the crate `protocol`.
+-- What jobs, sessions and the answers of saves and advances stand for (document 01, "What the unit calls"): for each case of each enum and for each struct the number or value of the crate `protocol`.
 -- A stop stands for its number in document 01's table.
 use Prim.Native.Nat.{ℕ}
-use mathlib.Core.List.{List}
+use mathlib.Core.List.{List, []}
 use Rattle.stops.specs.View.{stop-number}
 use Rattle.protocol.specs.Types as types
 use Rattle.protocol.specs.Calls as calls
@@ -16,6 +16,9 @@ use Rattle.jobs.specs.declared.types.Progress.{Progress}
 use Rattle.jobs.specs.declared.types.Progress.the-variants.{GoingOn, Saved, Restored, Refused}
 use Rattle.jobs.specs.declared.types.Advanced.{Advanced}
 use Rattle.jobs.specs.declared.types.Moved.{Moved}
+use Rattle.jobs.specs.declared.types.Start.{Start}
+use Rattle.jobs.specs.declared.types.Start.the-variants.{Begun, Stopped}
+use Rattle.jobs.specs.declared.types.Started.{Started}
 
 -- ---- jobs and sessions
 
@@ -60,6 +63,14 @@ view-advanced a ring fram = record { progress = view-progress (a .progress); job
 abbrev pub view-moved : Moved → Job → List ℕ → List ℕ → operations.Moved
 view-moved a job ring fram = record { progress = view-progress (a .progress); job = view-job job; session = view-session (a .session); ring = ring; fram = fram }
 
+abbrev pub view-start : Start → types.Start
+view-start Begun = types.Begun
+view-start (Stopped s) = types.Stopped (stop-number s)
+
+-- a save has no state buffer, and restores nothing
+abbrev pub view-started : Started → List ℕ → operations.Begin
+view-started a staging = record { answer = view-start (a .start); job = view-job (a .job); secret-length = 0; staging = staging; state = [] }
+
 -- ---- arguments
 
 abbrev pub sizes : ℕ → ℕ → calls.Sizes
@@ -67,3 +78,12 @@ sizes pages slots = record { pages = pages; slots = slots }
 
 abbrev pub advances : ℕ → ℕ → Job → List ℕ → calls.Advances
 advances pages slots job staging = record { sizes = sizes pages slots; job = view-job job; staging = staging }
+
+abbrev pub save-arguments : ℕ → ℕ → List ℕ → List ℕ → List ℕ → List ℕ → List ℕ → calls.SaveArguments
+save-arguments pages slots key nonce open-part secret staging = record { sizes = sizes pages slots; key = key; nonce = nonce; open-part = open-part; secret = secret; staging = staging }
+
+abbrev pub first-saves : calls.SaveArguments → List ℕ → calls.FirstSave
+first-saves a starting-tag = record { arguments = a; starting-tag = starting-tag }
+
+abbrev pub saves : calls.SaveArguments → Session → calls.Saves
+saves a session = record { arguments = a; session = view-session session }

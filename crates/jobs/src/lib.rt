@@ -1,14 +1,19 @@
-// Jobs and sessions (document 01, "What the unit calls"), and the advance: a job goes in by value, and its successor comes out.
+// Saves and the advance (document 01, "What the unit calls"): a session goes in by value and a job comes out, and a job goes in and its
+// successor comes out, in the end with the new session.
 mod advance;
 mod job;
 mod lent;
 mod memories;
+mod saves;
 mod types;
 
 pub use job::no_job;
 pub use job::no_session;
 pub use lent::advance_lent;
 pub use memories::check_memories;
+pub use saves::first_save;
+pub use saves::first_save_check;
+pub use saves::nonce_array;
 pub use types::Advanced;
 pub use types::Job;
 pub use types::Moved;
@@ -16,3 +21,5 @@ pub use types::Origin;
 pub use types::Phase;
 pub use types::Progress;
 pub use types::Session;
+pub use types::Start;
+pub use types::Started;

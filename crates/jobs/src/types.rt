@@ -60,3 +60,15 @@ pub struct Moved {
     pub progress: Progress,
     pub session: Session,
 }
+
+// What a start says.
+pub enum Start {
+    Begun,
+    Stopped(Stop),
+}
+
+// What a save answers. Beside a stop the job is done, and all else in it zero.
+pub struct Started {
+    pub start: Start,
+    pub job: Job,
+}

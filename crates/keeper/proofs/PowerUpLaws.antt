@@ -21,7 +21,8 @@ use Rattle.checkpoint.proofs.StoredLaws.{head-facts}
 use Rattle.protocol.specs.Types.{Phase, PowerUp}
 use Rattle.protocol.specs.Calls.{PowersUp}
 use Rattle.protocol.specs.Operations.{key-wrong, nonce-wrong, staging-wrong, state-wrong, Begin, begin, job-of, resumed, first-phase, newest-half, newest-checkpoint, power-up-stop, power-up}
-use Rattle.keeper.specs.Stages.{stopped, power-up-buffers, power-up-ring, power-up-half, half-lines}
+use Rattle.jobs.specs.Stages.{stopped}
+use Rattle.keeper.specs.Stages.{power-up-buffers, power-up-ring, power-up-half, half-lines}
 
 -- ---- conditions tried one after the other
 

@@ -21,7 +21,8 @@ use Rattle.checkpoint.proofs.StoredLaws.{head-facts, length-cipher, length-open
 use Rattle.checkpoint.proofs.SealedLaws.{length-sealed, length-own-tag}
 use Rattle.protocol.specs.Types.{Phase, PowerUp, Begun, Job}
 use Rattle.protocol.specs.Operations.{Begin, begin, job-of, resumed}
-use Rattle.keeper.specs.Stages.{stopped, half-lines, Reseals}
+use Rattle.jobs.specs.Stages.{stopped}
+use Rattle.keeper.specs.Stages.{half-lines, Reseals}
 
 module _ (key latest half nonce : List ℕ) (good : good-head half ≡ true) where
   length-restored : length (stored key latest half .secret) ≡ secret-length half

@@ -7,18 +7,13 @@ use lib.Dec.{eqb}
 use lib.ListN.{length, take}
 use Rattle.octets.specs.Limits.{nonce-length, restart-limit}
 use Rattle.octets.specs.Octets.{put}
-use Rattle.ring.specs.Ring.{Newest, ring-wrong, is-blank, is-unreadable, is-pending, nonce-used, half-named}
+use Rattle.ring.specs.Ring.{Newest, ring-wrong, is-blank, is-unreadable, nonce-used, half-named}
 use Rattle.checkpoint.specs.declared.half.Head.{Head}
 use Rattle.checkpoint.specs.Checkpoint.{sealed, own-tag}
 use Rattle.checkpoint.specs.Fram.{fram-wrong, half-at}
 use Rattle.checkpoint.specs.Half.{open-length, secret-length, stored-restarts, good-head, good-tag, stored}
-use Rattle.protocol.specs.Types.{Session, Stopped}
-use Rattle.protocol.specs.Calls.{SaveArguments, PowersUp}
-use Rattle.protocol.specs.Operations.{Begin, no-job, key-wrong, nonce-wrong, parts-wrong, staging-wrong, state-wrong, stale, resumed}
-
--- what a start that stops answers and leaves
-abbrev pub stopped : ℕ → (staging state : List ℕ) → Begin
-stopped s staging state = record { answer = Stopped s; job = no-job; secret-length = 0; staging = staging; state = state }
+use Rattle.protocol.specs.Calls.{PowersUp}
+use Rattle.protocol.specs.Operations.{key-wrong, nonce-wrong, staging-wrong, state-wrong, resumed}
 
 -- ---- conditions
 
@@ -31,23 +26,6 @@ abbrev pub look-half : (key newest fram : List ℕ) → List (ℕ × Bool)
 look-half key newest fram =
     let half = half-at fram (half-named newest) in
     (11, not (good-head half)) ∷ (12, not (good-tag key (take nonce-length newest) half)) ∷ []
-
--- those of save about its buffers
-abbrev pub save-buffers : (ring fram : List ℕ) → SaveArguments → List (ℕ × Bool)
-save-buffers ring fram a =
-    (1, ring-wrong (a .sizes .pages) (a .sizes .slots) ring) ∷
-    (2, fram-wrong fram) ∷
-    (3, key-wrong (length (a .key)) || nonce-wrong (length (a .nonce))) ∷
-    (4, parts-wrong (a .open-part) (a .secret) fram || staging-wrong (a .staging) fram) ∷ []
-
--- those of save about the ring, which reads as n
-abbrev pub save-ring : (ring : List ℕ) → ℕ → Newest → Session → List ℕ → List (ℕ × Bool)
-save-ring ring slots n s nonce =
-    (6, is-blank n) ∷
-    (7, is-unreadable n) ∷
-    (8, stale ring slots n s) ∷
-    (9, is-pending n) ∷
-    (10, nonce-used ring slots n nonce) ∷ []
 
 -- those of power-up about its buffers
 abbrev pub power-up-buffers : (ring fram : List ℕ) → PowersUp → List (ℕ × Bool)

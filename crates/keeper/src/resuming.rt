@@ -1,10 +1,8 @@
 // Power-up (document 01, "What the unit calls"): the newest checkpoint opened, and sealed anew with one restart more. Everything that can
 // stop it is tried before a byte of staging or state is written.
 use crate::looking::see_half;
-use crate::saves::nonce_array;
 use crate::types::Looked;
 use crate::types::PoweredUp;
-use crate::types::Start;
 use aes::key::expand_key;
 use aes::table::round_table;
 use checkpoint::fram::half_at;
@@ -23,8 +21,10 @@ use gcm::tag::wipe_steps;
 use jobs::Job;
 use jobs::Origin;
 use jobs::Phase;
+use jobs::Start;
 use jobs::check_memories;
 use jobs::no_job;
+use jobs::nonce_array;
 use octets::fill;
 use octets::limits::NONCE_LENGTH;
 use octets::limits::PART_LIMIT;
@@ -56,7 +56,8 @@ ghost use Rattle.protocol.specs.Types.{PowerUp};
 ghost use Rattle.protocol.specs.Operations.{begin, job-of, resumed, first-phase, power-up-stop, power-up};
 ghost use Rattle.jobs.specs.View.{view-phase};
 ghost use Rattle.keeper.specs.View.{view-powered-up, powers-up};
-ghost use Rattle.keeper.specs.Stages.{stopped, power-up-buffers, power-up-ring, power-up-half, half-lines, HeadOf, Reseals};
+ghost use Rattle.jobs.specs.Stages.{stopped};
+ghost use Rattle.keeper.specs.Stages.{power-up-buffers, power-up-ring, power-up-half, half-lines, HeadOf, Reseals};
 ghost use Rattle.keeper.specs.Resealing.{Outcome};
 
 // What sealing anew answers: why it stops, or the new checkpoint's tag.

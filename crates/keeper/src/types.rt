@@ -1,18 +1,7 @@
-// What the starts and look answer (document 01, "What the unit calls"). specs/View.antt says what each stands for.
+// What power-up and look answer (document 01, "What the unit calls"). specs/View.antt says what each stands for.
 use jobs::Job;
+use jobs::Start;
 use stops::Stop;
-
-// What a start says.
-pub enum Start {
-    Begun,
-    Stopped(Stop),
-}
-
-// What a save answers. Beside a stop the job is done, and all else in it zero.
-pub struct Started {
-    pub start: Start,
-    pub job: Job,
-}
 
 // What a power-up answers; `length` is the secret part's.
 pub struct PoweredUp {

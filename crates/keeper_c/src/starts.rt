@@ -4,19 +4,17 @@ use crate::bytes::put_job;
 use crate::bytes::session_in;
 use crate::cipher::answer;
 use jobs::Job;
-use keeper::Start;
-use keeper::first_save;
-use keeper::first_save_check;
+use jobs::Start;
+use jobs::first_save;
+use jobs::first_save_check;
 use keeper::power_up;
 use keeper::power_up_check;
-use keeper::save;
-use keeper::save_check;
 use stops::Stop;
 use stops::stop_number;
 ghost use mathlib.Core.Path.{_≡_};
 ghost use lib.ListN.{length};
-ghost use Rattle.jobs.specs.View.{view-job};
-ghost use Rattle.keeper.specs.View.{view-start, save-arguments, first-saves, powers-up};
+ghost use Rattle.jobs.specs.View.{view-job, view-start, save-arguments, first-saves};
+ghost use Rattle.keeper.specs.View.{powers-up};
 ghost use Rattle.keeper_c.specs.Bytes.{job-length};
 ghost use Rattle.keeper_c.specs.Calls.{start-number, job-after, length-after, starting-left, saving-left, saves-in, first-save-call, save-call, power-up-call};
 
@@ -111,8 +109,7 @@ pub extern "C" fn keeper_save(
 {
     let given = session_in(session);
     if job.len() != JOB_LENGTH {
-        let check = save_check(
-            given,
+        let check = given.save_check(
             pages,
             slots,
             ring,
@@ -125,8 +122,7 @@ pub extern "C" fn keeper_save(
         );
         return answer(check.stop_if(true, Stop::BadJob));
     }
-    let started = save(
-        given,
+    let started = given.save(
         pages,
         slots,
         ring,

@@ -128,8 +128,7 @@ fn start_save(
     fram: &[u8],
     staging: &mut [u8],
 ) -> Started {
-    keeper::save(
-        session,
+    session.save(
         PAGES,
         SLOTS,
         ring,

@@ -1,6 +1,6 @@
 -- `keeper_c::starts::keeper_first_save` meets its contract. Assumes nothing.
 use borrow.Author.Needs.{needs}
-use Rattle.keeper.specs.View.{view-start, save-arguments, first-saves}
+use Rattle.jobs.specs.View.{view-start, save-arguments, first-saves}
 use Rattle.keeper_c.proofs.StartLaws.{first-save-bad, first-save-good, no-length}
 use Rattle.keeper_c.proofs.starts.keeper_first_save.Statement.{statement}
 use Rattle.keeper_c.proofs.starts.keeper_first_save.Tie as tie

@@ -3,7 +3,7 @@ use mathlib.Core.Path.{ap, _∙_}
 use borrow.Author.Needs.{needs}
 use Rattle.protocol.specs.Types.{Session}
 use Rattle.protocol.specs.Operations.{save-stop, save}
-use Rattle.keeper.specs.View.{view-start, save-arguments}
+use Rattle.jobs.specs.View.{view-start, save-arguments}
 use Rattle.keeper_c.specs.Calls.{saves-in}
 use Rattle.keeper_c.proofs.StartLaws.{save-bad, save-good, no-length}
 use Rattle.keeper_c.proofs.starts.keeper_save.Statement.{statement}

@@ -1,8 +1,8 @@
 -- `keeper_c::starts::put_started` meets its contract. Assumes nothing.
 use mathlib.Core.Path.{sym, ap, _∙_}
 use borrow.Author.Needs.{needs}
-use Rattle.keeper.specs.declared.types.Start.{Start}
-use Rattle.keeper.specs.View.{view-start}
+use Rattle.jobs.specs.declared.types.Start.{Start}
+use Rattle.jobs.specs.View.{view-start}
 use Rattle.keeper_c.specs.Calls.{start-number, job-after}
 use Rattle.jobs.specs.View.{view-job}
 use Rattle.keeper_c.proofs.starts.put_started.Statement.{statement}

@@ -1,14 +1,14 @@
--- `keeper::saves::check_save_buffers` meets its contract. Assumes nothing.
+-- `jobs::saves::check_save_buffers` meets its contract. Assumes nothing.
 use mathlib.Core.Bool.{_||_}
 use lib.Dec.{ltb}
 use lib.ListN.{length}
 use borrow.Author.Needs.{needs}
 use Rattle.checkpoint.specs.Fram.{half-length}
 use Rattle.protocol.specs.Operations.{staging-wrong}
-use Rattle.keeper.specs.View.{save-arguments}
-use Rattle.keeper.proofs.SaveLaws.{buffers-tried}
-use Rattle.keeper.proofs.saves.check_save_buffers.Statement.{statement}
-use Rattle.keeper.proofs.saves.check_save_buffers.Tie as tie
+use Rattle.jobs.specs.View.{save-arguments}
+use Rattle.jobs.proofs.SaveLaws.{buffers-tried}
+use Rattle.jobs.proofs.saves.check_save_buffers.Statement.{statement}
+use Rattle.jobs.proofs.saves.check_save_buffers.Tie as tie
 
 returns : tie.Need-returns
 unfolding staging-wrong half-length

@@ -1,10 +1,10 @@
--- `keeper::saves::not_begun` meets its contract. Assumes nothing.
+-- `jobs::saves::not_begun` meets its contract. Assumes nothing.
 use mathlib.Core.List.{[]}
 use borrow.Author.Needs.{needs}
 use Rattle.stops.specs.View.{stop-number}
 use Rattle.protocol.specs.Types.{Stopped}
-use Rattle.keeper.proofs.saves.not_begun.Statement.{statement}
-use Rattle.keeper.proofs.saves.not_begun.Tie as tie
+use Rattle.jobs.proofs.saves.not_begun.Statement.{statement}
+use Rattle.jobs.proofs.saves.not_begun.Tie as tie
 
 returns : tie.Need-returns
 returns c staging = λ i. record {

@@ -1,4 +1,10 @@
 // First save and save (document 01, "What the unit calls"): a checkpoint sealed into staging, and the job that stores it.
+use crate::job::no_job;
+use crate::memories::check_memories;
+use crate::types::Job;
+use crate::types::Origin;
+use crate::types::Phase;
+use crate::types::Session;
 use crate::types::Start;
 use crate::types::Started;
 use checkpoint::fram::part_wrong;
@@ -7,12 +13,6 @@ use checkpoint::under::seal_under;
 use gcm::key_wrong;
 use gcm::nonce_wrong;
 use gcm::tag_wrong;
-use jobs::Job;
-use jobs::Origin;
-use jobs::Phase;
-use jobs::Session;
-use jobs::check_memories;
-use jobs::no_job;
 use octets::blank;
 use octets::copy;
 use octets::limits::NONCE_LENGTH;
@@ -38,9 +38,8 @@ ghost use Rattle.checkpoint.specs.Checkpoint.{sealed-length};
 ghost use Rattle.checkpoint.specs.Prepared.{checkpoint-of};
 ghost use Rattle.protocol.specs.Types.{Words, Save};
 ghost use Rattle.protocol.specs.Operations.{begin, job-of, parts-wrong, first-save-stop, first-save, save-stop, save};
-ghost use Rattle.jobs.specs.View.{view-session};
-ghost use Rattle.keeper.specs.View.{view-started, save-arguments, first-saves, saves};
-ghost use Rattle.keeper.specs.Stages.{save-buffers, save-ring, stopped};
+ghost use Rattle.jobs.specs.View.{view-session, view-started, save-arguments, first-saves, saves};
+ghost use Rattle.jobs.specs.Stages.{save-buffers, save-ring, stopped};
 
 // Stop 4 of both parts.
 fn parts_wrong(open: &[u8], secret: &[u8], fram: &[u8]) -> bool
@@ -64,7 +63,7 @@ fn not_begun(stop: Stop) -> Started
 }
 
 // A nonce as an array.
-pub(crate) fn nonce_array(nonce: &[u8]) -> [u8; NONCE_LENGTH]
+pub fn nonce_array(nonce: &[u8]) -> [u8; NONCE_LENGTH]
     requires { ⌜ length (now nonce) ≡ nonce-length ⌝ }
     ensures { λ r. ⌜ r ≡ now (nonce .entry) ⌝ }
 {
@@ -215,31 +214,6 @@ fn check_save_ring(
         .stop_if(used, Stop::NonceUsed)
 }
 
-// Whether a save would stop, by 1 to 4 or 6 to 10. Nothing is stored.
-pub fn save_check(
-    session: Session,
-    pages: usize,
-    slots: usize,
-    ring: &[u8],
-    fram: &[u8],
-    key: &[u8],
-    nonce: &[u8],
-    open: &[u8],
-    secret: &[u8],
-    staging: &[u8],
-) -> Check
-    ensures { λ r. ⌜ check-number r ≡ save-stop (now (ring .entry)) (now (fram .entry)) (saves (save-arguments pages slots (now (key .entry)) (now (nonce .entry)) (now («open» .entry)) (now (secret .entry)) (now (staging .entry))) session) ⌝ }
-{
-    let check = check_save_buffers(pages, slots, ring, fram, key, nonce, open, secret, staging);
-    match check {
-        Check::Stopped(stop) => Check::Stopped(stop),
-        Check::Pass => {
-            let newest = read_ring(ring, pages, slots);
-            check_save_ring(session, pages, slots, ring, newest, nonce)
-        }
-    }
-}
-
 // Where stops 1 to 4 do not apply.
 fn save_on(
     session: Session,
@@ -270,35 +244,62 @@ fn save_on(
     }
 }
 
-// Seals the next checkpoint into staging and answers the job that stores it, or stops with 1 to 4 or 6 to 10.
-pub fn save(
-    session: Session,
-    pages: usize,
-    slots: usize,
-    ring: &[u8],
-    fram: &[u8],
-    key: &[u8],
-    nonce: &[u8],
-    open: &[u8],
-    secret: &[u8],
-    staging: &mut [u8],
-) -> Started
-    ensures { λ r. ⌜ view-started r (now (staging .exit)) ≡ save (now (ring .entry)) (now (fram .entry)) (saves (save-arguments pages slots (now (key .entry)) (now (nonce .entry)) (now («open» .entry)) (now (secret .entry)) (now (staging .entry))) session) ⌝ }
-{
-    let check = check_save_buffers(pages, slots, ring, fram, key, nonce, open, secret, staging);
-    match check {
-        Check::Stopped(stop) => not_begun(stop),
-        Check::Pass => save_on(
-            session,
-            pages,
-            slots,
-            ring,
-            fram,
-            key,
-            nonce,
-            open,
-            secret,
-            staging,
-        ),
+impl Session {
+    // Whether a save would stop, by 1 to 4 or 6 to 10. Nothing is stored.
+    pub fn save_check(
+        self,
+        pages: usize,
+        slots: usize,
+        ring: &[u8],
+        fram: &[u8],
+        key: &[u8],
+        nonce: &[u8],
+        open: &[u8],
+        secret: &[u8],
+        staging: &[u8],
+    ) -> Check
+        ensures { λ r. ⌜ check-number r ≡ save-stop (now (ring .entry)) (now (fram .entry)) (saves (save-arguments pages slots (now (key .entry)) (now (nonce .entry)) (now («open» .entry)) (now (secret .entry)) (now (staging .entry))) self) ⌝ }
+    {
+        let check = check_save_buffers(pages, slots, ring, fram, key, nonce, open, secret, staging);
+        match check {
+            Check::Stopped(stop) => Check::Stopped(stop),
+            Check::Pass => {
+                let newest = read_ring(ring, pages, slots);
+                check_save_ring(self, pages, slots, ring, newest, nonce)
+            }
+        }
+    }
+
+    // Seals the next checkpoint into staging and answers the job that stores it, or stops with 1 to 4 or 6 to 10.
+    pub fn save(
+        self,
+        pages: usize,
+        slots: usize,
+        ring: &[u8],
+        fram: &[u8],
+        key: &[u8],
+        nonce: &[u8],
+        open: &[u8],
+        secret: &[u8],
+        staging: &mut [u8],
+    ) -> Started
+        ensures { λ r. ⌜ view-started r (now (staging .exit)) ≡ save (now (ring .entry)) (now (fram .entry)) (saves (save-arguments pages slots (now (key .entry)) (now (nonce .entry)) (now («open» .entry)) (now (secret .entry)) (now (staging .entry))) self) ⌝ }
+    {
+        let check = check_save_buffers(pages, slots, ring, fram, key, nonce, open, secret, staging);
+        match check {
+            Check::Stopped(stop) => not_begun(stop),
+            Check::Pass => save_on(
+                self,
+                pages,
+                slots,
+                ring,
+                fram,
+                key,
+                nonce,
+                open,
+                secret,
+                staging,
+            ),
+        }
     }
 }

@@ -1,4 +1,4 @@
--- `keeper::saves::parts_wrong` meets its contract. Assumes nothing.
+-- `jobs::saves::parts_wrong` meets its contract. Assumes nothing.
 use mathlib.Core.Path.{_≡_, sym, ap, _∙_}
 use mathlib.Core.Bool.{Bool, true, false, _||_}
 use mathlib.Core.List.{List}
@@ -11,9 +11,9 @@ use Rattle.stops.proofs.Laws.{neither}
 use Rattle.checkpoint.specs.Checkpoint.{part-wrong, sealed-length}
 use Rattle.checkpoint.specs.Fram.{half-length}
 use Rattle.protocol.specs.Operations.{parts-wrong}
-use Rattle.keeper.proofs.SaveLaws.{small}
-use Rattle.keeper.proofs.saves.parts_wrong.Statement.{statement}
-use Rattle.keeper.proofs.saves.parts_wrong.Tie as tie
+use Rattle.jobs.proofs.SaveLaws.{small}
+use Rattle.jobs.proofs.saves.parts_wrong.Statement.{statement}
+use Rattle.jobs.proofs.saves.parts_wrong.Tie as tie
 
 wrong : (open-part secret fram : List ℕ) (x y : Bool) → x ≡ part-wrong open-part → y ≡ part-wrong secret → x || y ≡ true → true ≡ parts-wrong open-part secret fram
 unfolding parts-wrong

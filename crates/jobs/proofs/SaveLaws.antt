@@ -19,7 +19,7 @@ use Rattle.checkpoint.specs.Prepared.{checkpoint-of}
 use Rattle.protocol.specs.Types.{Words, Save}
 use Rattle.protocol.specs.Calls.{SaveArguments, FirstSave, Saves}
 use Rattle.protocol.specs.Operations.{key-wrong, nonce-wrong, tag-wrong, parts-wrong, staging-wrong, Begin, begin, job-of, first-checkpoint, save-checkpoint, first-save-stop, first-save, save-stop, save}
-use Rattle.keeper.specs.Stages.{stopped, save-buffers, save-ring}
+use Rattle.jobs.specs.Stages.{stopped, save-buffers, save-ring}
 
 -- ---- conditions tried one after the other
 

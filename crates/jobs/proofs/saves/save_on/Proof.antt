@@ -1,4 +1,4 @@
--- `keeper::saves::save_on` meets its contract. Assumes nothing.
+-- `jobs::saves::save_on` meets its contract. Assumes nothing.
 use mathlib.Core.Path.{_≡_, sym, ap, _∙_}
 use mathlib.Core.Option.{none}
 use Prim.Native.Nat.{ℕ, _-_, _≤_}
@@ -10,12 +10,11 @@ use Rattle.stops.proofs.Laws.{passes}
 use Rattle.ring.specs.Ring.{Newest, read-ring, newest-record, half-named, target-page, target-slot}
 use Rattle.ring.proofs.NewestLaws.{newest-half-fits}
 use Rattle.protocol.specs.Calls.{Saves}
-use Rattle.jobs.specs.View.{view-session}
-use Rattle.keeper.specs.View.{save-arguments, saves}
-use Rattle.keeper.specs.Stages.{save-ring}
-use Rattle.keeper.proofs.SaveLaws.{Buffers, buffers-pass, ring-lines, on-ring, save-stops, save-begins}
-use Rattle.keeper.proofs.saves.save_on.Statement.{statement}
-use Rattle.keeper.proofs.saves.save_on.Tie as tie
+use Rattle.jobs.specs.View.{view-session, save-arguments, saves}
+use Rattle.jobs.specs.Stages.{save-ring}
+use Rattle.jobs.proofs.SaveLaws.{Buffers, buffers-pass, ring-lines, on-ring, save-stops, save-begins}
+use Rattle.jobs.proofs.saves.save_on.Statement.{statement}
+use Rattle.jobs.proofs.saves.save_on.Tie as tie
 
 abbrev start : tie.After-read-ring → tie.Start
 start c = c .before .before .before .before .before .before .before .before

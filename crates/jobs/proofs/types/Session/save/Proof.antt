@@ -1,16 +1,16 @@
--- `keeper::saves::save` meets its contract. Assumes nothing.
+-- `jobs::types::Session::save` meets its contract. Assumes nothing.
 use mathlib.Core.Path.{sym, ap, _∙_}
 use borrow.Author.Needs.{needs}
 use Rattle.stops.specs.View.{check-number}
-use Rattle.keeper.specs.View.{save-arguments, saves}
-use Rattle.keeper.proofs.SaveLaws.{buffers-stop, save-stops}
-use Rattle.keeper.proofs.saves.save.Statement.{statement}
-use Rattle.keeper.proofs.saves.save.Tie as tie
+use Rattle.jobs.specs.View.{save-arguments, saves}
+use Rattle.jobs.proofs.SaveLaws.{buffers-stop, save-stops}
+use Rattle.jobs.proofs.types.Session.save.Statement.{statement}
+use Rattle.jobs.proofs.types.Session.save.Tie as tie
 
 returns : tie.Need-returns
 returns c =
     let a = c .before .before .before .before .before .before .before .before .before .before .before .before .before .args in
-    let call = saves (save-arguments (a .pages) (a .slots) (a .key .now) (a .nonce .now) (a .«open» .now) (a .secret .now) (a .staging .now)) (a .session) in
+    let call = saves (save-arguments (a .pages) (a .slots) (a .key .now) (a .nonce .now) (a .«open» .now) (a .secret .now) (a .staging .now)) (a .self) in
     save-stops (a .ring .now) (a .fram .now) call _ (c .not-begun .ensures (a .staging .now))
     (buffers-stop (a .ring .now) (a .fram .now) call (sym (c .before .before .before .before .check-save-buffers .ensures) ∙ ap check-number (c .before .before .check .given .1)))
 

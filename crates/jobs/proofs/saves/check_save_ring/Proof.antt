@@ -1,4 +1,4 @@
--- `keeper::saves::check_save_ring` meets its contract. Assumes nothing.
+-- `jobs::saves::check_save_ring` meets its contract. Assumes nothing.
 use mathlib.Core.Path.{_≡_}
 use mathlib.Core.Bool.{Bool}
 use mathlib.Core.Option.{Option, none}
@@ -10,10 +10,10 @@ use Rattle.stops.proofs.Laws.{no-lines, one-more}
 use Rattle.ring.specs.Ring.{Newest, is-blank, is-unreadable, is-pending, nonce-used, not-newest}
 use Rattle.protocol.specs.Types.{Session}
 use Rattle.protocol.specs.Operations.{stale}
 use Rattle.jobs.specs.View.{view-session}
-use Rattle.keeper.specs.Stages.{save-ring}
-use Rattle.keeper.proofs.saves.check_save_ring.Statement.{statement}
-use Rattle.keeper.proofs.saves.check_save_ring.Tie as tie
+use Rattle.jobs.specs.Stages.{save-ring}
+use Rattle.jobs.proofs.saves.check_save_ring.Statement.{statement}
+use Rattle.jobs.proofs.saves.check_save_ring.Tie as tie
 
 five : (ring : List ℕ) (slots : ℕ) (n : Newest) (s : Session) (nonce : List ℕ) (b u t p x : Bool) (o₁ o₂ o₃ o₄ o₅ : Option ℕ)
     → b ≡ is-blank n → u ≡ is-unreadable n → t ≡ not-newest ring slots n (s .page) (s .slot) (s .latest) → p ≡ is-pending n → x ≡ nonce-used ring slots n nonce

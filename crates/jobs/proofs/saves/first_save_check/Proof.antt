@@ -1,14 +1,14 @@
--- `keeper::saves::first_save_check` meets its contract. Assumes nothing.
+-- `jobs::saves::first_save_check` meets its contract. Assumes nothing.
 use mathlib.Core.Bool.{_||_}
 use lib.Dec.{ltb}
 use lib.ListN.{length}
 use borrow.Author.Needs.{needs}
 use Rattle.checkpoint.specs.Fram.{half-length}
 use Rattle.protocol.specs.Operations.{staging-wrong}
-use Rattle.keeper.specs.View.{save-arguments, first-saves}
-use Rattle.keeper.proofs.SaveLaws.{first-tried}
-use Rattle.keeper.proofs.saves.first_save_check.Statement.{statement}
-use Rattle.keeper.proofs.saves.first_save_check.Tie as tie
+use Rattle.jobs.specs.View.{save-arguments, first-saves}
+use Rattle.jobs.proofs.SaveLaws.{first-tried}
+use Rattle.jobs.proofs.saves.first_save_check.Statement.{statement}
+use Rattle.jobs.proofs.saves.first_save_check.Tie as tie
 
 returns : tie.Need-returns
 unfolding staging-wrong half-length

@@ -1,4 +1,4 @@
--- `keeper::saves::nonce_array` meets its contract. Assumes nothing.
+-- `jobs::saves::nonce_array` meets its contract. Assumes nothing.
 use mathlib.Core.Path.{_≡_, ap, _∙_}
 use mathlib.Core.List.{List, _++_, append-nil}
 use Prim.Native.Nat.{ℕ, _≤_}
@@ -7,8 +7,8 @@ use lib.ListN.{length, drop-of-length-le}
 use borrow.Author.Needs.{needs}
 use Rattle.octets.specs.Octets.{put}
 use Rattle.octets.proofs.Laws.{put-front}
-use Rattle.keeper.proofs.saves.nonce_array.Statement.{statement}
-use Rattle.keeper.proofs.saves.nonce_array.Tie as tie
+use Rattle.jobs.proofs.saves.nonce_array.Statement.{statement}
+use Rattle.jobs.proofs.saves.nonce_array.Tie as tie
 
 -- bytes put over as many
 over : (xs ys zs : List ℕ) → length xs ≤ length ys → zs ≡ put xs 0 ys → zs ≡ ys

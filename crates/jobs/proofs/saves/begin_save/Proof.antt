@@ -1,4 +1,4 @@
--- `keeper::saves::begin_save` meets its contract. Assumes nothing.
+-- `jobs::saves::begin_save` meets its contract. Assumes nothing.
 use mathlib.Core.Path.{sym}
 use mathlib.Core.List.{[]}
 use borrow.Author.Needs.{needs}
@@ -7,8 +7,8 @@ use Rattle.checkpoint.specs.Prepared.{checkpoint-of}
 use Rattle.checkpoint.proofs.SealedLaws.{length-sealed}
 use Rattle.protocol.specs.Types.{Words, Save, Begun}
 use Rattle.protocol.specs.Operations.{begin, job-of}
-use Rattle.keeper.proofs.saves.begin_save.Statement.{statement}
-use Rattle.keeper.proofs.saves.begin_save.Tie as tie
+use Rattle.jobs.proofs.saves.begin_save.Statement.{statement}
+use Rattle.jobs.proofs.saves.begin_save.Tie as tie
 
 seal-under-requires : tie.Need-seal-under-requires
 seal-under-requires c κs =

@@ -1,14 +1,14 @@
--- `keeper::saves::first_save` meets its contract. Assumes nothing.
+-- `jobs::saves::first_save` meets its contract. Assumes nothing.
 use mathlib.Core.Path.{_≡_, sym, ap, _∙_}
 use mathlib.Core.Option.{none}
 use borrow.Author.Needs.{needs}
 use Rattle.stops.specs.View.{check-number}
 use Rattle.protocol.specs.Calls.{FirstSave}
 use Rattle.protocol.specs.Operations.{first-save-stop}
-use Rattle.keeper.specs.View.{save-arguments, first-saves}
-use Rattle.keeper.proofs.SaveLaws.{first-lengths, first-stops, first-begins}
-use Rattle.keeper.proofs.saves.first_save.Statement.{statement}
-use Rattle.keeper.proofs.saves.first_save.Tie as tie
+use Rattle.jobs.specs.View.{save-arguments, first-saves}
+use Rattle.jobs.proofs.SaveLaws.{first-lengths, first-stops, first-begins}
+use Rattle.jobs.proofs.saves.first_save.Statement.{statement}
+use Rattle.jobs.proofs.saves.first_save.Tie as tie
 
 abbrev start : tie.After-first-save-check → tie.Start
 start c = c .before .before .before .before .before .before .before .before .before .before
