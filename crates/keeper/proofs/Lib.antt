@@ -1,6 +1,5 @@
 -- Laws of the views and of the operations' conditions.
 pub mod ViewLaws
-pub mod AdvanceLaws
 pub mod LookLaws
 pub mod SaveLaws
 pub mod ResumeLaws

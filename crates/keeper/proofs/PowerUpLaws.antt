@@ -1,6 +1,6 @@
 -- The stops of power-up, stage by stage, and what it answers. Assumes nothing.
 use Prim.Native.Nat.{ℕ, _-_, _<_, _≤_}
-use mathlib.Core.Path.{_≡_, _∙_}
+use mathlib.Core.Path.{_≡_, sym, ap, _∙_}
 use mathlib.Core.Bool.{Bool, true, false, not, _||_}
 use mathlib.Core.Option.{Option, none, some}
 use mathlib.Core.List.{List, [], _∷_, _++_}
@@ -21,7 +21,7 @@ use Rattle.checkpoint.proofs.StoredLaws.{head-facts}
 use Rattle.protocol.specs.Types.{Phase, PowerUp}
 use Rattle.protocol.specs.Calls.{PowersUp}
 use Rattle.protocol.specs.Operations.{key-wrong, nonce-wrong, staging-wrong, state-wrong, Begin, begin, job-of, resumed, first-phase, newest-half, newest-checkpoint, power-up-stop, power-up}
-use Rattle.keeper.specs.Stages.{stopped, power-up-buffers, power-up-ring, half-lines}
+use Rattle.keeper.specs.Stages.{stopped, power-up-buffers, power-up-ring, power-up-half, half-lines}
 
 -- ---- conditions tried one after the other
 
@@ -107,6 +107,10 @@ module _ (ring fram : List ℕ) (a : PowersUp) where
   pub on-half : first-of (power-up-buffers ring fram a) ≡ none → first-of ring-lines ≡ none → good-head half ≡ true → power-up-stop ring fram a ≡ first-of rest-lines
   unfolding first-of
   on-half e f g = on-head e f ∙ rw g
+
+  pub on-record : (rec : List ℕ) → rec ≡ newest → first-of (power-up-buffers ring fram a) ≡ none → first-of ring-lines ≡ none → power-up-stop ring fram a ≡ first-of (power-up-half (a .key) rec fram)
+  unfolding newest-half
+  on-record rec r e f = on-head e f ∙ ap (λ (l : List ℕ). first-of (power-up-half (a .key) l fram)) (sym r)
 
   -- the newest record names a half
   pub names-half : ring-wrong (a .sizes .pages) (a .sizes .slots) ring ≡ false → first-of ring-lines ≡ none → half-named newest < 2

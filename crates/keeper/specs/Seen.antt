@@ -1,13 +1,15 @@
--- What look finds where it does not stop: the half that the newest record names, and what its head says.
-use Prim.Native.Nat.{ℕ}
+-- What is seen of a half, for the stop o that look has there: the restarts that its head says, and where its open part lies.
+use Prim.Native.Nat.{ℕ, _+_, _*_}
 use mathlib.Core.Path.{_≡_}
+use mathlib.Core.Option.{Option}
 use mathlib.Core.List.{List}
-use Rattle.ring.specs.Ring.{read-ring, newest-record, half-named}
+use Rattle.checkpoint.specs.Checkpoint.{head-length}
+use Rattle.checkpoint.specs.Fram.{half-length, half-at}
 use Rattle.checkpoint.specs.Half.{open-length, stored-restarts}
-use Rattle.protocol.specs.Operations.{newest-half}
-use Rattle.keeper.specs.declared.looking.Seen.{Seen}
+use Rattle.protocol.specs.Operations.{look-by, stretch-by}
+use Rattle.keeper.specs.View.{view-looked, view-stretch}
+use Rattle.keeper.specs.declared.types.Seen.{Seen}
 
-pub record Finds (s : Seen) (ring fram : List ℕ) (pages slots : ℕ) : Type 0 where
-  pub half : s .half ≡ half-named (newest-record ring slots (read-ring ring pages slots))
-  pub open-part : s .«open» ≡ open-length (newest-half ring fram slots (read-ring ring pages slots))
-  pub restarts : s .restarts ≡ stored-restarts (newest-half ring fram slots (read-ring ring pages slots))
+pub record Sees (s : Seen) (o : Option ℕ) (fram : List ℕ) (half : ℕ) : Type 0 where
+  pub looked : view-looked (s .looked) ≡ look-by o (stored-restarts (half-at fram half))
+  pub stretch : view-stretch s ≡ stretch-by o (half * half-length fram + head-length) (open-length (half-at fram half))

@@ -4,14 +4,14 @@ use mathlib.Core.Path.{_≡_}
 use mathlib.Core.Bool.{Bool, not, _||_}
 use mathlib.Core.List.{List, [], _∷_}
 use lib.Dec.{eqb}
-use lib.ListN.{length}
-use Rattle.octets.specs.Limits.{restart-limit}
+use lib.ListN.{length, take}
+use Rattle.octets.specs.Limits.{nonce-length, restart-limit}
 use Rattle.octets.specs.Octets.{put}
-use Rattle.ring.specs.Ring.{Newest, ring-wrong, is-blank, is-unreadable, is-pending, nonce-used}
+use Rattle.ring.specs.Ring.{Newest, ring-wrong, is-blank, is-unreadable, is-pending, nonce-used, half-named}
 use Rattle.checkpoint.specs.declared.half.Head.{Head}
 use Rattle.checkpoint.specs.Checkpoint.{sealed, own-tag}
-use Rattle.checkpoint.specs.Fram.{fram-wrong}
-use Rattle.checkpoint.specs.Half.{open-length, secret-length, stored-restarts, good-tag, stored}
+use Rattle.checkpoint.specs.Fram.{fram-wrong, half-at}
+use Rattle.checkpoint.specs.Half.{open-length, secret-length, stored-restarts, good-head, good-tag, stored}
 use Rattle.protocol.specs.Types.{Session, Stopped}
 use Rattle.protocol.specs.Calls.{SaveArguments, PowersUp}
 use Rattle.protocol.specs.Operations.{Begin, no-job, key-wrong, nonce-wrong, parts-wrong, staging-wrong, state-wrong, stale, resumed}
@@ -25,6 +25,12 @@ stopped s staging state = record { answer = Stopped s; job = no-job; secret-leng
 -- those of look about its buffers
 abbrev pub look-buffers : ℕ → ℕ → (ring fram key : List ℕ) → List (ℕ × Bool)
 look-buffers pages slots ring fram key = (1, ring-wrong pages slots ring) ∷ (2, fram-wrong fram) ∷ (3, key-wrong (length key)) ∷ []
+
+-- those of look about the half that a record names
+abbrev pub look-half : (key newest fram : List ℕ) → List (ℕ × Bool)
+look-half key newest fram =
+    let half = half-at fram (half-named newest) in
+    (11, not (good-head half)) ∷ (12, not (good-tag key (take nonce-length newest) half)) ∷ []
 
 -- those of save about its buffers
 abbrev pub save-buffers : (ring fram : List ℕ) → SaveArguments → List (ℕ × Bool)
@@ -54,6 +60,14 @@ power-up-buffers ring fram a =
 -- those of power-up about the ring, which reads as n
 abbrev pub power-up-ring : (ring : List ℕ) → ℕ → Newest → List ℕ → List (ℕ × Bool)
 power-up-ring ring slots n nonce = (6, is-blank n) ∷ (7, is-unreadable n) ∷ (10, nonce-used ring slots n nonce) ∷ []
+
+-- those of power-up about the half that a record names
+abbrev pub power-up-half : (key newest fram : List ℕ) → List (ℕ × Bool)
+power-up-half key newest fram =
+    let half = half-at fram (half-named newest) in
+    (11, not (good-head half)) ∷
+    (12, not (good-tag key (take nonce-length newest) half)) ∷
+    (13, eqb (stored-restarts half) restart-limit) ∷ []
 
 -- those of power-up about the half behind a good head, whose record has the nonce `latest`
 abbrev pub half-lines : (key latest half : List ℕ) → List (ℕ × Bool)

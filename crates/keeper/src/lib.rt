@@ -1,28 +1,33 @@
-// The checkpoint keeper (document 01): a job or a session goes in by value, and its successor comes out.
-mod advance;
+// The checkpoint keeper (document 01): a session goes in by value, and a job comes out. What jobs and sessions are, and the advance, is in
+// the crate `jobs`, whose names are passed on.
 mod buffers;
-mod job;
-mod lent;
 mod looking;
-mod memories;
 mod resuming;
 mod saves;
 mod types;
 
 pub use buffers::wipe;
-pub use lent::advance_lent;
+pub use jobs::Advanced;
+pub use jobs::Job;
+pub use jobs::Moved;
+pub use jobs::Origin;
+pub use jobs::Phase;
+pub use jobs::Progress;
+pub use jobs::Session;
+pub use jobs::advance_lent;
+pub use jobs::no_job;
+pub use jobs::no_session;
 pub use looking::look;
 pub use looking::open_part;
+pub use looking::see;
 pub use resuming::power_up;
+pub use resuming::power_up_check;
 pub use saves::first_save;
-pub use types::Advanced;
-pub use types::Job;
+pub use saves::first_save_check;
+pub use saves::save;
+pub use saves::save_check;
 pub use types::Looked;
-pub use types::Moved;
-pub use types::Origin;
-pub use types::Phase;
 pub use types::PoweredUp;
-pub use types::Progress;
-pub use types::Session;
+pub use types::Seen;
 pub use types::Start;
 pub use types::Started;

@@ -1,12 +1,13 @@
-// Look and its companion (document 01, "What the unit calls"). Both store nothing.
-use crate::memories::check_memories;
+// Look, its companion, and what both are made of (document 01, "What the unit calls"). They store nothing.
 use crate::types::Looked;
+use crate::types::Seen;
 use checkpoint::fram::half_at;
 use checkpoint::half::Head;
 use checkpoint::half::read_head;
 use checkpoint::layout::HEAD_LENGTH;
 use checkpoint::under::good_tag_under;
 use gcm::key_wrong;
+use jobs::check_memories;
 use octets::limits::NONCE_LENGTH;
 use octets::part;
 use ring::half_named;
@@ -16,27 +17,19 @@ use stops::Stop;
 ghost use mathlib.Core.Path.{_≡_};
 ghost use mathlib.Core.Bool.{false, not};
 ghost use mathlib.Core.Option.{none, some};
-ghost use mathlib.Core.List.{[], _∷_};
-ghost use Prim.Native.Nat.{_≤_};
-ghost use lib.ListN.{length, take};
+ghost use mathlib.Core.List.{List, [], _∷_};
+ghost use Prim.Native.Nat.{ℕ, _≤_};
+ghost use lib.ListN.{length};
 ghost use Rattle.octets.specs.Limits.{key-length, nonce-length, slot-length};
 ghost use Rattle.stops.specs.Stops.{first-of};
 ghost use Rattle.stops.specs.View.{check-number, stop-number};
 ghost use Rattle.ring.specs.Ring.{half-named};
-ghost use Rattle.checkpoint.specs.Fram.{fram-wrong, half-at};
-ghost use Rattle.checkpoint.specs.Half.{open-length, secret-length, stored-restarts, good-head, good-tag};
-ghost use Rattle.protocol.specs.Operations.{look-stop, look, open-stretch, stretch-of};
-ghost use Rattle.keeper.specs.View.{view-looked, looks};
-ghost use Rattle.keeper.specs.Stages.{look-buffers};
-ghost use Rattle.keeper.specs.Seen.{Finds};
-
-// What look sees: why it stops, or the newest checkpoint's half, its open part's length in bytes and its restarts.
-struct Seen {
-    check: Check,
-    half: usize,
-    open: usize,
-    restarts: usize,
-}
+ghost use Rattle.checkpoint.specs.Fram.{fram-wrong};
+ghost use Rattle.checkpoint.specs.Half.{open-length, secret-length, good-head, good-tag};
+ghost use Rattle.protocol.specs.Operations.{look, open-stretch, stretch-of};
+ghost use Rattle.keeper.specs.View.{view-looked, view-stretch, looks};
+ghost use Rattle.keeper.specs.Stages.{look-buffers, look-half};
+ghost use Rattle.keeper.specs.Seen.{Sees};
 
 // Stops 11 and 12 of a half, whose head was read.
 fn check_half(key: &[u8], nonce: &[u8], half: &[u8], head: Head) -> Check
@@ -50,58 +43,61 @@ fn check_half(key: &[u8], nonce: &[u8], half: &[u8], head: Head) -> Check
     Check::Stopped(Stop::BadHead)
 }
 
-// The half that a record names.
-fn see_half(record: &[u8], fram: &[u8], key: &[u8]) -> Seen
+// A stop, with an empty stretch.
+fn unseen(stop: Stop) -> Seen
+    ensures { λ r. ⌜ ((fram : List ℕ) (half : ℕ) → Sees r (some (stop-number stop)) fram half) ⌝ }
+{
+    Seen {
+        looked: Looked::Unseen(stop),
+        offset: 0,
+        length: 0,
+    }
+}
+
+// The half that a record names: stops 11 and 12, or its restarts and open part.
+pub(crate) fn see_half(record: &[u8], fram: &[u8], key: &[u8]) -> Seen
     requires { ⌜ (fram-wrong (now fram) ≡ false) × (length (now key) ≡ key-length) × (length (now «record») ≡ slot-length) × (half-named (now «record») ≤ 1) ⌝ }
-    ensures { λ r. ⌜ (check-number (r .check) ≡ first-of ((11, not (good-head (half-at (now (fram .entry)) (half-named (now («record» .entry)))))) ∷ (12, not (good-tag (now (key .entry)) (take nonce-length (now («record» .entry))) (half-at (now (fram .entry)) (half-named (now («record» .entry)))))) ∷ [])) × (r .half ≡ half-named (now («record» .entry))) × (r .«open» ≡ open-length (half-at (now (fram .entry)) (half-named (now («record» .entry))))) × (r .restarts ≡ stored-restarts (half-at (now (fram .entry)) (half-named (now («record» .entry))))) ⌝ }
+    ensures { λ r. ⌜ Sees r (first-of (look-half (now (key .entry)) (now («record» .entry)) (now (fram .entry)))) (now (fram .entry)) (half-named (now («record» .entry))) ⌝ }
 {
     let number = half_named(record);
     let half = half_at(fram, number);
     let head = read_head(half);
     let check = check_half(key, part(record, 0, NONCE_LENGTH), half, head);
-    Seen {
-        check,
-        half: number,
-        open: head.open,
-        restarts: head.restarts,
+    match check {
+        Check::Stopped(stop) => unseen(stop),
+        Check::Pass => Seen {
+            looked: Looked::Restarts(head.restarts),
+            offset: number * (fram.len() / 2) + HEAD_LENGTH,
+            length: head.open,
+        },
     }
 }
 
 // The newest checkpoint, where stops 1, 2 and 3 do not apply.
 fn see_newest(pages: usize, slots: usize, ring: &[u8], fram: &[u8], key: &[u8]) -> Seen
     requires { ⌜ first-of (look-buffers pages slots (now ring) (now fram) (now key)) ≡ none ⌝ }
-    ensures { λ r. ⌜ (check-number (r .check) ≡ look-stop (now (ring .entry)) (now (fram .entry)) (looks pages slots (now (key .entry)))) × (check-number (r .check) ≡ none → Finds r (now (ring .entry)) (now (fram .entry)) pages slots) ⌝ }
+    ensures { λ r. ⌜ (view-looked (r .looked) ≡ look (now (ring .entry)) (now (fram .entry)) (looks pages slots (now (key .entry)))) × (view-stretch r ≡ open-stretch (now (ring .entry)) (now (fram .entry)) (looks pages slots (now (key .entry)))) ⌝ }
 {
     let newest = read_ring(ring, pages, slots);
     let check = Check::Pass
         .stop_if(newest.is_blank(), Stop::RingBlank)
         .stop_if(newest.is_unreadable(), Stop::RingUnreadable);
     match check {
-        Check::Stopped(stop) => nothing_seen(stop),
+        Check::Stopped(stop) => unseen(stop),
         Check::Pass => see_half(newest.record(ring, pages, slots), fram, key),
     }
 }
 
-fn nothing_seen(stop: Stop) -> Seen
-    ensures { λ r. ⌜ check-number (r .check) ≡ some (stop-number stop) ⌝ }
-{
-    Seen {
-        check: Check::Stopped(stop),
-        half: 0,
-        open: 0,
-        restarts: 0,
-    }
-}
-
-fn see(pages: usize, slots: usize, ring: &[u8], fram: &[u8], key: &[u8]) -> Seen
-    ensures { λ r. ⌜ (check-number (r .check) ≡ look-stop (now (ring .entry)) (now (fram .entry)) (looks pages slots (now (key .entry)))) × (check-number (r .check) ≡ none → Finds r (now (ring .entry)) (now (fram .entry)) pages slots) ⌝ }
+// What look answers, and where the open part lies in the FRAM image.
+pub fn see(pages: usize, slots: usize, ring: &[u8], fram: &[u8], key: &[u8]) -> Seen
+    ensures { λ r. ⌜ (view-looked (r .looked) ≡ look (now (ring .entry)) (now (fram .entry)) (looks pages slots (now (key .entry)))) × (view-stretch r ≡ open-stretch (now (ring .entry)) (now (fram .entry)) (looks pages slots (now (key .entry)))) ⌝ }
 {
     let check = check_memories(ring, pages, slots, fram).stop_if(
         key_wrong(key.len()),
         Stop::KeyNonceTagSize,
     );
     match check {
-        Check::Stopped(stop) => nothing_seen(stop),
+        Check::Stopped(stop) => unseen(stop),
         Check::Pass => see_newest(pages, slots, ring, fram, key),
     }
 }
@@ -111,11 +107,7 @@ pub fn look(pages: usize, slots: usize, ring: &[u8], fram: &[u8], key: &[u8]) ->
     ensures { λ r. ⌜ view-looked r ≡ look (now (ring .entry)) (now (fram .entry)) (looks pages slots (now (key .entry))) ⌝ }
 {
     let seen = see(pages, slots, ring, fram, key);
-    let check = seen.check;
-    match check {
-        Check::Stopped(stop) => Looked::Unseen(stop),
-        Check::Pass => Looked::Restarts(seen.restarts),
-    }
+    seen.looked
 }
 
 // The open part of the newest checkpoint, as that stretch of the FRAM image; an empty stretch where look stops.
@@ -129,9 +121,5 @@ pub fn open_part<'a>(
     ensures { λ r. ⌜ now r ≡ stretch-of (now (fram .entry)) (open-stretch (now (ring .entry)) (now (fram .entry)) (looks pages slots (now (key .entry)))) ⌝ }
 {
     let seen = see(pages, slots, ring, fram, key);
-    let check = seen.check;
-    match check {
-        Check::Stopped(_) => part(fram, 0, 0),
-        Check::Pass => part(fram, seen.half * (fram.len() / 2) + HEAD_LENGTH, seen.open),
-    }
+    part(fram, seen.offset, seen.length)
 }

@@ -1,11 +1,8 @@
 // Power-up (document 01, "What the unit calls"): the newest checkpoint opened, and sealed anew with one restart more. Everything that can
 // stop it is tried before a byte of staging or state is written.
-use crate::job::no_job;
-use crate::memories::check_memories;
+use crate::looking::see_half;
 use crate::saves::nonce_array;
-use crate::types::Job;
-use crate::types::Origin;
-use crate::types::Phase;
+use crate::types::Looked;
 use crate::types::PoweredUp;
 use crate::types::Start;
 use aes::key::expand_key;
@@ -23,6 +20,11 @@ use gcm::key_wrong;
 use gcm::nonce_wrong;
 use gcm::tag::hash_steps;
 use gcm::tag::wipe_steps;
+use jobs::Job;
+use jobs::Origin;
+use jobs::Phase;
+use jobs::check_memories;
+use jobs::no_job;
 use octets::fill;
 use octets::limits::NONCE_LENGTH;
 use octets::limits::PART_LIMIT;
@@ -41,18 +43,20 @@ ghost use mathlib.Core.Option.{none};
 ghost use mathlib.Core.List.{List};
 ghost use Prim.Native.Nat.{ℕ, _≤_, _<_};
 ghost use lib.ListN.{length};
-ghost use Rattle.octets.specs.Limits.{key-length, nonce-length, part-limit, restart-limit};
+ghost use Rattle.octets.specs.Limits.{key-length, nonce-length, part-limit, restart-limit, slot-length};
 ghost use Rattle.stops.specs.Stops.{first-of};
 ghost use Rattle.stops.specs.View.{check-number, stop-number};
 ghost use Rattle.aes.specs.Cipher.{cipher, aes};
-ghost use Rattle.ring.specs.Ring.{ring-wrong, read-ring, Within};
+ghost use Rattle.ring.specs.Ring.{ring-wrong, read-ring, half-named, Within};
 ghost use Rattle.ring.specs.View.{newest};
+ghost use Rattle.checkpoint.specs.Fram.{fram-wrong};
 ghost use Rattle.checkpoint.specs.Half.{stored-length, good-head, good-tag, stored};
 ghost use Rattle.checkpoint.specs.Prepared.{Prepared};
 ghost use Rattle.protocol.specs.Types.{PowerUp};
-ghost use Rattle.protocol.specs.Operations.{begin, job-of, resumed, first-phase, power-up};
-ghost use Rattle.keeper.specs.View.{view-phase, view-powered-up, powers-up};
-ghost use Rattle.keeper.specs.Stages.{stopped, power-up-buffers, power-up-ring, half-lines, HeadOf, Reseals};
+ghost use Rattle.protocol.specs.Operations.{begin, job-of, resumed, first-phase, power-up-stop, power-up};
+ghost use Rattle.jobs.specs.View.{view-phase};
+ghost use Rattle.keeper.specs.View.{view-powered-up, powers-up};
+ghost use Rattle.keeper.specs.Stages.{stopped, power-up-buffers, power-up-ring, power-up-half, half-lines, HeadOf, Reseals};
 ghost use Rattle.keeper.specs.Resealing.{Outcome};
 
 // What sealing anew answers: why it stops, or the new checkpoint's tag.
@@ -263,7 +267,7 @@ fn first_phase(found: Newest) -> Phase
 }
 
 // Stops 1 to 4 of power-up.
-fn check_power_up(
+fn check_power_up_buffers(
     pages: usize,
     slots: usize,
     ring: &[u8],
@@ -283,7 +287,13 @@ fn check_power_up(
 }
 
 // Stops 6, 7 and 10 of power-up, on a ring that reads as `found`.
-fn check_newest(pages: usize, slots: usize, ring: &[u8], found: Newest, nonce: &[u8]) -> Check
+fn check_power_up_ring(
+    pages: usize,
+    slots: usize,
+    ring: &[u8],
+    found: Newest,
+    nonce: &[u8],
+) -> Check
     requires { ⌜ (ring-wrong pages slots (now ring) ≡ false) × Within pages slots (newest found) ⌝ }
     ensures { λ r. ⌜ check-number r ≡ first-of (power-up-ring (now (ring .entry)) slots (newest found) (now (nonce .entry))) ⌝ }
 {
@@ -292,6 +302,46 @@ fn check_newest(pages: usize, slots: usize, ring: &[u8], found: Newest, nonce: &
         .stop_if(found.is_blank(), Stop::RingBlank)
         .stop_if(found.is_unreadable(), Stop::RingUnreadable)
         .stop_if(used, Stop::NonceUsed)
+}
+
+// Stops 11 to 13 of power-up, on the half that a record names.
+fn check_power_up_half(record: &[u8], fram: &[u8], key: &[u8]) -> Check
+    requires { ⌜ (fram-wrong (now fram) ≡ false) × (length (now key) ≡ key-length) × (length (now «record») ≡ slot-length) × (half-named (now «record») ≤ 1) ⌝ }
+    ensures { λ r. ⌜ check-number r ≡ first-of (power-up-half (now (key .entry)) (now («record» .entry)) (now (fram .entry))) ⌝ }
+{
+    let seen = see_half(record, fram, key);
+    let looked = seen.looked;
+    match looked {
+        Looked::Unseen(stop) => Check::Stopped(stop),
+        Looked::Restarts(n) => Check::Pass.stop_if(n == RESTART_LIMIT, Stop::RestartLimit),
+    }
+}
+
+// Whether a power-up would stop, by 1 to 4, 6, 7 or 10 to 13. Nothing is stored.
+pub fn power_up_check(
+    pages: usize,
+    slots: usize,
+    ring: &[u8],
+    fram: &[u8],
+    key: &[u8],
+    nonce: &[u8],
+    staging: &[u8],
+    state: &[u8],
+) -> Check
+    ensures { λ r. ⌜ check-number r ≡ power-up-stop (now (ring .entry)) (now (fram .entry)) (powers-up pages slots (now (key .entry)) (now (nonce .entry)) (now (staging .entry)) (now (state .entry))) ⌝ }
+{
+    let check = check_power_up_buffers(pages, slots, ring, fram, key, nonce, staging, state);
+    match check {
+        Check::Stopped(stop) => Check::Stopped(stop),
+        Check::Pass => {
+            let found = read_ring(ring, pages, slots);
+            let check = check_power_up_ring(pages, slots, ring, found, nonce);
+            match check {
+                Check::Stopped(stop) => Check::Stopped(stop),
+                Check::Pass => check_power_up_half(found.record(ring, pages, slots), fram, key),
+            }
+        }
+    }
 }
 
 // Where stops 1 to 10 do not apply.
@@ -350,7 +400,7 @@ fn power_up_on(
     ensures { λ r. ⌜ view-powered-up r (now (staging .exit)) (now (state .exit)) ≡ power-up (now (ring .entry)) (now (fram .entry)) (powers-up pages slots (now (key .entry)) (now (nonce .entry)) (now (staging .entry)) (now (state .entry))) ⌝ }
 {
     let found = read_ring(ring, pages, slots);
-    let check = check_newest(pages, slots, ring, found, nonce);
+    let check = check_power_up_ring(pages, slots, ring, found, nonce);
     match check {
         Check::Stopped(stop) => not_resumed(stop),
         Check::Pass => resume(pages, slots, ring, fram, key, nonce, staging, state, found),
@@ -371,7 +421,7 @@ pub fn power_up(
 ) -> PoweredUp
     ensures { λ r. ⌜ view-powered-up r (now (staging .exit)) (now (state .exit)) ≡ power-up (now (ring .entry)) (now (fram .entry)) (powers-up pages slots (now (key .entry)) (now (nonce .entry)) (now (staging .entry)) (now (state .entry))) ⌝ }
 {
-    let check = check_power_up(pages, slots, ring, fram, key, nonce, staging, state);
+    let check = check_power_up_buffers(pages, slots, ring, fram, key, nonce, staging, state);
     match check {
         Check::Stopped(stop) => not_resumed(stop),
         Check::Pass => power_up_on(pages, slots, ring, fram, key, nonce, staging, state),

@@ -1,10 +1,4 @@
 // First save and save (document 01, "What the unit calls"): a checkpoint sealed into staging, and the job that stores it.
-use crate::job::no_job;
-use crate::memories::check_memories;
-use crate::types::Job;
-use crate::types::Origin;
-use crate::types::Phase;
-use crate::types::Session;
 use crate::types::Start;
 use crate::types::Started;
 use checkpoint::fram::part_wrong;
@@ -13,6 +7,12 @@ use checkpoint::under::seal_under;
 use gcm::key_wrong;
 use gcm::nonce_wrong;
 use gcm::tag_wrong;
+use jobs::Job;
+use jobs::Origin;
+use jobs::Phase;
+use jobs::Session;
+use jobs::check_memories;
+use jobs::no_job;
 use octets::blank;
 use octets::copy;
 use octets::limits::NONCE_LENGTH;
@@ -37,8 +37,9 @@ ghost use Rattle.ring.specs.View.{newest};
 ghost use Rattle.checkpoint.specs.Checkpoint.{sealed-length};
 ghost use Rattle.checkpoint.specs.Prepared.{checkpoint-of};
 ghost use Rattle.protocol.specs.Types.{Words, Save};
-ghost use Rattle.protocol.specs.Operations.{begin, job-of, parts-wrong, first-save-stop, first-save, save};
-ghost use Rattle.keeper.specs.View.{view-session, view-started, save-arguments, first-saves, saves};
+ghost use Rattle.protocol.specs.Operations.{begin, job-of, parts-wrong, first-save-stop, first-save, save-stop, save};
+ghost use Rattle.jobs.specs.View.{view-session};
+ghost use Rattle.keeper.specs.View.{view-started, save-arguments, first-saves, saves};
 ghost use Rattle.keeper.specs.Stages.{save-buffers, save-ring, stopped};
 
 // Stop 4 of both parts.
@@ -107,7 +108,7 @@ fn begin_save(
 }
 
 // Stops 1 to 4 of save.
-fn check_save(
+fn check_save_buffers(
     pages: usize,
     slots: usize,
     ring: &[u8],
@@ -127,8 +128,8 @@ fn check_save(
         .stop_if(buffers, Stop::BufferSize)
 }
 
-// Stops 1 to 5 of first save.
-fn check_first_save(
+// Whether a first save would stop, by 1 to 5. Nothing is stored.
+pub fn first_save_check(
     pages: usize,
     slots: usize,
     ring: &[u8],
@@ -165,7 +166,7 @@ pub fn first_save(
 ) -> Started
     ensures { λ r. ⌜ view-started r (now (staging .exit)) ≡ first-save (now (ring .entry)) (now (fram .entry)) (first-saves (save-arguments pages slots (now (key .entry)) (now (nonce .entry)) (now («open» .entry)) (now (secret .entry)) (now (staging .entry))) (now («starting_tag» .entry))) ⌝ }
 {
-    let check = check_first_save(
+    let check = first_save_check(
         pages,
         slots,
         ring,
@@ -183,89 +184,121 @@ pub fn first_save(
     }
 }
 
-impl Session {
-    // Stops 6 to 10 of save, on a ring that reads as `found`.
-    fn check_ring(
-        self,
-        pages: usize,
-        slots: usize,
-        ring: &[u8],
-        found: Newest,
-        nonce: &[u8],
-    ) -> Check
-        requires { ⌜ (ring-wrong pages slots (now ring) ≡ false) × Within pages slots (newest found) ⌝ }
-        ensures { λ r. ⌜ check-number r ≡ first-of (save-ring (now (ring .entry)) slots (newest found) (view-session self) (now (nonce .entry))) ⌝ }
-    {
-        let latest = self.latest;
-        let stale = not_newest(ring, pages, slots, found, self.page, self.slot, &latest);
-        let used = nonce_used(ring, pages, slots, found, nonce);
-        Check::Pass
-            .stop_if(found.is_blank(), Stop::RingBlank)
-            .stop_if(found.is_unreadable(), Stop::RingUnreadable)
-            .stop_if(stale, Stop::StaleSession)
-            .stop_if(found.is_pending(), Stop::PagePending)
-            .stop_if(used, Stop::NonceUsed)
-    }
+// Stops 6 to 10 of save, on a ring that reads as `found`.
+fn check_save_ring(
+    session: Session,
+    pages: usize,
+    slots: usize,
+    ring: &[u8],
+    found: Newest,
+    nonce: &[u8],
+) -> Check
+    requires { ⌜ (ring-wrong pages slots (now ring) ≡ false) × Within pages slots (newest found) ⌝ }
+    ensures { λ r. ⌜ check-number r ≡ first-of (save-ring (now (ring .entry)) slots (newest found) (view-session session) (now (nonce .entry))) ⌝ }
+{
+    let latest = session.latest;
+    let stale = not_newest(
+        ring,
+        pages,
+        slots,
+        found,
+        session.page,
+        session.slot,
+        &latest,
+    );
+    let used = nonce_used(ring, pages, slots, found, nonce);
+    Check::Pass
+        .stop_if(found.is_blank(), Stop::RingBlank)
+        .stop_if(found.is_unreadable(), Stop::RingUnreadable)
+        .stop_if(stale, Stop::StaleSession)
+        .stop_if(found.is_pending(), Stop::PagePending)
+        .stop_if(used, Stop::NonceUsed)
+}
 
-    // Where stops 1 to 4 do not apply.
-    fn save_on(
-        self,
-        pages: usize,
-        slots: usize,
-        ring: &[u8],
-        fram: &[u8],
-        key: &[u8],
-        nonce: &[u8],
-        open: &[u8],
-        secret: &[u8],
-        staging: &mut [u8],
-    ) -> Started
-        requires { ⌜ first-of (save-buffers (now ring) (now fram) (save-arguments pages slots (now key) (now nonce) (now «open») (now secret) (now staging))) ≡ none ⌝ }
-        ensures { λ r. ⌜ view-started r (now (staging .exit)) ≡ save (now (ring .entry)) (now (fram .entry)) (saves (save-arguments pages slots (now (key .entry)) (now (nonce .entry)) (now («open» .entry)) (now (secret .entry)) (now (staging .entry))) self) ⌝ }
-    {
-        let newest = read_ring(ring, pages, slots);
-        let check = self.check_ring(pages, slots, ring, newest, nonce);
-        match check {
-            Check::Stopped(stop) => not_begun(stop),
-            Check::Pass => {
-                let half = 1 - half_named(newest.record(ring, pages, slots));
-                let page = newest.target_page(pages, slots);
-                let slot = newest.target_slot(slots);
-                let tag = self.tag;
-                begin_save(key, nonce, &tag, open, secret, staging, half, page, slot)
-            }
+// Whether a save would stop, by 1 to 4 or 6 to 10. Nothing is stored.
+pub fn save_check(
+    session: Session,
+    pages: usize,
+    slots: usize,
+    ring: &[u8],
+    fram: &[u8],
+    key: &[u8],
+    nonce: &[u8],
+    open: &[u8],
+    secret: &[u8],
+    staging: &[u8],
+) -> Check
+    ensures { λ r. ⌜ check-number r ≡ save-stop (now (ring .entry)) (now (fram .entry)) (saves (save-arguments pages slots (now (key .entry)) (now (nonce .entry)) (now («open» .entry)) (now (secret .entry)) (now (staging .entry))) session) ⌝ }
+{
+    let check = check_save_buffers(pages, slots, ring, fram, key, nonce, open, secret, staging);
+    match check {
+        Check::Stopped(stop) => Check::Stopped(stop),
+        Check::Pass => {
+            let newest = read_ring(ring, pages, slots);
+            check_save_ring(session, pages, slots, ring, newest, nonce)
         }
     }
+}
 
-    // Seals the next checkpoint into staging and answers the job that stores it, or stops with 1 to 4 or 6 to 10.
-    pub fn save(
-        self,
-        pages: usize,
-        slots: usize,
-        ring: &[u8],
-        fram: &[u8],
-        key: &[u8],
-        nonce: &[u8],
-        open: &[u8],
-        secret: &[u8],
-        staging: &mut [u8],
-    ) -> Started
-        ensures { λ r. ⌜ view-started r (now (staging .exit)) ≡ save (now (ring .entry)) (now (fram .entry)) (saves (save-arguments pages slots (now (key .entry)) (now (nonce .entry)) (now («open» .entry)) (now (secret .entry)) (now (staging .entry))) self) ⌝ }
-    {
-        let check = check_save(pages, slots, ring, fram, key, nonce, open, secret, staging);
-        match check {
-            Check::Stopped(stop) => not_begun(stop),
-            Check::Pass => self.save_on(
-                pages,
-                slots,
-                ring,
-                fram,
-                key,
-                nonce,
-                open,
-                secret,
-                staging,
-            ),
+// Where stops 1 to 4 do not apply.
+fn save_on(
+    session: Session,
+    pages: usize,
+    slots: usize,
+    ring: &[u8],
+    fram: &[u8],
+    key: &[u8],
+    nonce: &[u8],
+    open: &[u8],
+    secret: &[u8],
+    staging: &mut [u8],
+) -> Started
+    requires { ⌜ first-of (save-buffers (now ring) (now fram) (save-arguments pages slots (now key) (now nonce) (now «open») (now secret) (now staging))) ≡ none ⌝ }
+    ensures { λ r. ⌜ view-started r (now (staging .exit)) ≡ save (now (ring .entry)) (now (fram .entry)) (saves (save-arguments pages slots (now (key .entry)) (now (nonce .entry)) (now («open» .entry)) (now (secret .entry)) (now (staging .entry))) session) ⌝ }
+{
+    let newest = read_ring(ring, pages, slots);
+    let check = check_save_ring(session, pages, slots, ring, newest, nonce);
+    match check {
+        Check::Stopped(stop) => not_begun(stop),
+        Check::Pass => {
+            let half = 1 - half_named(newest.record(ring, pages, slots));
+            let page = newest.target_page(pages, slots);
+            let slot = newest.target_slot(slots);
+            let tag = session.tag;
+            begin_save(key, nonce, &tag, open, secret, staging, half, page, slot)
         }
+    }
+}
+
+// Seals the next checkpoint into staging and answers the job that stores it, or stops with 1 to 4 or 6 to 10.
+pub fn save(
+    session: Session,
+    pages: usize,
+    slots: usize,
+    ring: &[u8],
+    fram: &[u8],
+    key: &[u8],
+    nonce: &[u8],
+    open: &[u8],
+    secret: &[u8],
+    staging: &mut [u8],
+) -> Started
+    ensures { λ r. ⌜ view-started r (now (staging .exit)) ≡ save (now (ring .entry)) (now (fram .entry)) (saves (save-arguments pages slots (now (key .entry)) (now (nonce .entry)) (now («open» .entry)) (now (secret .entry)) (now (staging .entry))) session) ⌝ }
+{
+    let check = check_save_buffers(pages, slots, ring, fram, key, nonce, open, secret, staging);
+    match check {
+        Check::Stopped(stop) => not_begun(stop),
+        Check::Pass => save_on(
+            session,
+            pages,
+            slots,
+            ring,
+            fram,
+            key,
+            nonce,
+            open,
+            secret,
+            staging,
+        ),
     }
 }

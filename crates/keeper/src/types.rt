@@ -1,65 +1,6 @@
-// What the calls take and answer (document 01, "What the unit calls"). specs/View.antt says what each stands for.
-use octets::limits::NONCE_LENGTH;
-use octets::limits::SLOT_LENGTH;
-use octets::limits::TAG_LENGTH;
+// What the starts and look answer (document 01, "What the unit calls"). specs/View.antt says what each stands for.
+use jobs::Job;
 use stops::Stop;
-
-// The next store of a job: the page to erase, or the number of the word to copy.
-pub enum Phase {
-    EraseFirst(usize),
-    Words(usize),
-    Record,
-    EraseAfter(usize),
-    Done,
-}
-
-// Which start a job came from. A first save is a save.
-pub enum Origin {
-    Save,
-    PowerUp,
-}
-
-// A checkpoint on its way into the memories. Half 0 is A and half 1 is B; `length` is the checkpoint's in bytes; page and
-// slot are the record's target; the tag is the checkpoint's own.
-pub struct Job {
-    pub phase: Phase,
-    pub origin: Origin,
-    pub half: usize,
-    pub length: usize,
-    pub page: usize,
-    pub slot: usize,
-    pub nonce: [u8; NONCE_LENGTH],
-    pub tag: [u8; TAG_LENGTH],
-}
-
-// The newest record and where it stands, and its checkpoint's tag.
-pub struct Session {
-    pub page: usize,
-    pub slot: usize,
-    pub latest: [u8; SLOT_LENGTH],
-    pub tag: [u8; TAG_LENGTH],
-}
-
-// What an advance says.
-pub enum Progress {
-    GoingOn,
-    Saved,
-    Restored,
-    Refused(Stop),
-}
-
-// What an advance answers. The session is one where the progress is Saved or Restored, and else all zeros.
-pub struct Advanced {
-    pub progress: Progress,
-    pub job: Job,
-    pub session: Session,
-}
-
-// What an advance of a lent job answers.
-pub struct Moved {
-    pub progress: Progress,
-    pub session: Session,
-}
 
 // What a start says.
 pub enum Start {
@@ -84,4 +25,11 @@ pub struct PoweredUp {
 pub enum Looked {
     Restarts(usize),
     Unseen(Stop),
+}
+
+// What look answers, and the stretch of the FRAM image that its companion hands back: an empty one where look stops.
+pub struct Seen {
+    pub looked: Looked,
+    pub offset: usize,
+    pub length: usize,
 }

@@ -1,2 +1,5 @@
 -- Laws of the calls.
+mod AdvanceLaws
+mod BytesLaws
+mod LookLaws
 mod SealLaws

@@ -1,13 +1,20 @@
 -- What each call answers and leaves behind its pointers (hosts/c/keeper.h). A stop leaves all as it was.
 use Prim.Native.Nat.{ℕ}
-use mathlib.Core.Bool.{_||_}
+use mathlib.Core.Bool.{not, _||_}
 use mathlib.Core.Option.{Option, none, some}
 use mathlib.Core.List.{List, [], _∷_}
+use lib.Dec.{eqb}
 use lib.ListN.{length}
 use Rattle.octets.specs.Octets.{put}
-use Rattle.stops.specs.Stops.{first-of}
+use Rattle.stops.specs.Stops.{first-of, then-stop}
 use Rattle.gcm.specs.Gcm.{encrypted, tag}
 use Rattle.gcm.specs.Calls.{key-wrong, nonce-wrong, tag-wrong, buffers-wrong}
+use Rattle.ring.specs.Ring.{ring-wrong}
+use Rattle.checkpoint.specs.Fram.{fram-wrong}
+use Rattle.protocol.specs.Types.{Session, Stretch, Looked, Restarts, Unseen, Progress, GoingOn, Saved, Restored, Refused}
+use Rattle.protocol.specs.Calls.{Sizes, FirstSave, Saves, PowersUp, Looks, Advances}
+use Rattle.protocol.specs.Operations.{Begin, Moved, staging-wrong, first-save-stop, first-save, save-stop, save, power-up-stop, power-up, look, open-stretch, job-wrong, advance}
+use Rattle.keeper_c.specs.Bytes.{job-length, session-length, job-bytes, session-bytes, job-in}
 
 -- 0, or the number of a stop
 abbrev pub answer : Option ℕ → ℕ
@@ -37,3 +44,102 @@ sealing-by none key nonce aad text out tag-buffer =
 
 unfoldable pub sealing-call : (key nonce aad text out tag : List ℕ) → Sealing
 sealing-call key nonce aad text out tag-buffer = sealing-by (sealing-stop key nonce aad text out tag-buffer) key nonce aad text out tag-buffer
+
+-- ---- starts: the job goes to a buffer
+
+pub record Starting : Type 0 where
+  pub answer : ℕ
+  pub staging : List ℕ
+  pub state : List ℕ
+  pub job : List ℕ
+  pub secret-length : ℕ
+
+-- 14 of the buffer for the job is tried after all other stops
+abbrev pub with-job : Option ℕ → List ℕ → Option ℕ
+with-job stop job = then-stop stop 14 (not (eqb (length job) job-length))
+
+-- from the stop, what the operation answers and leaves, and what stood behind the pointers
+abbrev pub starting-by : Option ℕ → Begin → (staging state job : List ℕ) → ℕ → Starting
+starting-by (some n) b staging state job secret-length = record { answer = n; staging = staging; state = state; job = job; secret-length = secret-length }
+starting-by none b staging state job secret-length =
+    record { answer = 0; staging = b .staging; state = b .state; job = job-bytes (b .job); secret-length = b .secret-length }
+
+module _ (ring fram : List ℕ) where
+  -- a save has no state buffer, and restores nothing
+  abbrev pub saving-left : ℕ → List ℕ → List ℕ → Starting
+  saving-left r staging job = record { answer = r; staging = staging; state = []; job = job; secret-length = 0 }
+
+  unfoldable pub first-save-call : FirstSave → List ℕ → Starting
+  first-save-call a job = starting-by (with-job (first-save-stop ring fram a) job) (first-save ring fram a) (a .arguments .staging) [] job 0
+
+  unfoldable pub save-call : Saves → List ℕ → Starting
+  save-call a job = starting-by (with-job (save-stop ring fram a) job) (save ring fram a) (a .arguments .staging) [] job 0
+
+  unfoldable pub power-up-call : PowersUp → List ℕ → ℕ → Starting
+  power-up-call a job secret-length = starting-by (with-job (power-up-stop ring fram a) job) (power-up ring fram a) (a .staging) (a .state) job secret-length
+
+-- ---- look
+
+pub record Looking : Type 0 where
+  pub answer : ℕ
+  pub restarts : ℕ
+  pub open-start : ℕ
+  pub open-length : ℕ
+
+abbrev pub looking-left : ℕ → ℕ → ℕ → ℕ → Looking
+looking-left r restarts start long = record { answer = r; restarts = restarts; open-start = start; open-length = long }
+
+-- from what look answers, where the open part lies, and what stood behind the pointers
+abbrev pub looking-by : Looked → Stretch → ℕ → ℕ → ℕ → Looking
+looking-by (Unseen n) z restarts start long = looking-left n restarts start long
+looking-by (Restarts k) z restarts start long = looking-left 0 k (z .offset) (z .length)
+
+unfoldable pub look-call : List ℕ → List ℕ → Looks → ℕ → ℕ → ℕ → Looking
+look-call ring fram a restarts start long = looking-by (look ring fram a) (open-stretch ring fram a) restarts start long
+
+-- ---- advance
+
+pub record Advancing : Type 0 where
+  pub answer : ℕ
+  pub ring : List ℕ
+  pub fram : List ℕ
+  pub job : List ℕ
+  pub session : List ℕ
+
+abbrev pub advancing-left : ℕ → (ring fram job session : List ℕ) → Advancing
+advancing-left r ring fram job session = record { answer = r; ring = ring; fram = fram; job = job; session = session }
+
+abbrev pub progress-number : Progress → ℕ
+progress-number GoingOn = 256
+progress-number Saved = 257
+progress-number Restored = 258
+progress-number (Refused n) = n
+
+-- the session is written where the job is done
+abbrev pub session-after : Progress → Session → List ℕ → List ℕ
+session-after GoingOn s buffer = buffer
+session-after Saved s buffer = session-bytes s
+session-after Restored s buffer = session-bytes s
+session-after (Refused n) s buffer = buffer
+
+-- stop 4 is also that of a session buffer of another length
+unfoldable pub advance-call-stop : (ring fram : List ℕ) → Advances → List ℕ → Option ℕ
+advance-call-stop ring fram a session = first-of (
+    (1, ring-wrong (a .sizes .pages) (a .sizes .slots) ring) ∷
+    (2, fram-wrong fram) ∷
+    (4, staging-wrong (a .staging) fram || not (eqb (length session) session-length)) ∷
+    (14, job-wrong (a .job) (a .sizes) ring fram) ∷ [])
+
+abbrev pub advancing-by : Option ℕ → Moved → (ring fram job session : List ℕ) → Advancing
+advancing-by (some n) m ring fram job session = advancing-left n ring fram job session
+advancing-by none m ring fram job session =
+    advancing-left (progress-number (m .progress)) (m .ring) (m .fram) (job-bytes (m .job)) (session-after (m .progress) (m .session) session)
+
+-- the job is read from its buffer
+abbrev pub advances-in : Sizes → (job staging : List ℕ) → Advances
+advances-in z job staging = record { sizes = z; job = job-in job; staging = staging }
+
+unfoldable pub advance-call : (ring fram : List ℕ) → Sizes → (staging job session : List ℕ) → Advancing
+advance-call ring fram z staging job session =
+    let a = advances-in z job staging in
+    advancing-by (advance-call-stop ring fram a session) (advance ring fram a) ring fram job session

@@ -1,2 +1,3 @@
 -- The calls for C and Rust programs.
+pub mod Bytes
 pub mod Calls

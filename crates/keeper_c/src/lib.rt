@@ -1,7 +1,11 @@
 // The keeper's calls for C and Rust programs (hosts/c/keeper.h): numbers, and byte slices as a pointer and a length. A call answers 0, or
 // document 01's number of its stop, and a stop changes nothing behind a pointer.
+mod bytes;
+mod calls;
 mod cipher;
 
+pub use calls::keeper_advance;
+pub use calls::keeper_look;
 pub use cipher::keeper_open;
 pub use cipher::keeper_seal;
 pub use cipher::keeper_wipe;

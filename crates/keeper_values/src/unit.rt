@@ -18,6 +18,7 @@ use keeper::Session;
 use keeper::Start;
 use keeper::Started;
 use keeper::look;
+use keeper::no_session;
 use keeper::open_part;
 use libc::STDOUT_FILENO;
 use ring_line::ring_line;
@@ -88,16 +89,6 @@ fn carry_out(
     }
 }
 
-// A session that no call handed out.
-pub fn no_session() -> Session {
-    Session {
-        page: 0,
-        slot: 0,
-        latest: [0u8; 16],
-        tag: [0u8; 16],
-    }
-}
-
 fn start_first_save(value: u8, nonce: u8, ring: &[u8], fram: &[u8], staging: &mut [u8]) -> Started {
     keeper::first_save(
         PAGES,
@@ -137,7 +128,8 @@ fn start_save(
     fram: &[u8],
     staging: &mut [u8],
 ) -> Started {
-    session.save(
+    keeper::save(
+        session,
         PAGES,
         SLOTS,
         ring,

@@ -5,9 +5,8 @@ use borrow.Author.Needs.{needs}
 use Rattle.stops.specs.Stops.{first-of}
 use Rattle.stops.specs.View.{check-number}
 use Rattle.stops.proofs.Laws.{one-more}
-use Rattle.gcm.specs.Calls.{key-wrong}
 use Rattle.keeper.specs.Stages.{look-buffers}
-use Rattle.keeper.proofs.LookLaws.{stopped-not-none, buffers-stop}
+use Rattle.keeper.proofs.LookLaws.{buffers-stop, sees}
 use Rattle.keeper.proofs.looking.see.Statement.{statement}
 use Rattle.keeper.proofs.looking.see.Tie as tie
 
@@ -19,16 +18,12 @@ buffers-check : (c : tie.After-stop-if) → let a = start c .args in
 buffers-check c =
     one-more (_ ∷ _ ∷ []) 3 _ _ _ _ (c .before .before .check-memories .ensures) (c .before .key-wrong .ensures) (c .stop-if .ensures)
 
-see-newest-requires : tie.Need-see-newest-requires
-see-newest-requires c κs = sym (buffers-check (c .before .before)) ∙ ap check-number (c .enum-told .given .1)
-
 returns : tie.Need-returns
 returns c =
     let a = start (c .before .before .before .before) .args in
-    let none-else = c .nothing-seen .ensures in (
-      none-else ∙ sym (buffers-stop (a .pages) (a .slots) (a .ring .now) (a .fram .now) (a .key .now) (sym (buffers-check (c .before .before .before .before)) ∙ ap check-number (c .before .before .check .given .1))),
-      λ e. stopped-not-none (sym none-else ∙ e),
-    )
+    sees (a .pages) (a .slots) (a .ring .now) (a .fram .now) (a .key .now) _
+    (buffers-stop (a .pages) (a .slots) (a .ring .now) (a .fram .now) (a .key .now) (sym (buffers-check (c .before .before .before .before)) ∙ ap check-number (c .before .before .check .given .1)))
+    (c .unseen .ensures _ _)
 
 pub see-spec : {M : Type 1} → statement M
 see-spec =
@@ -40,6 +35,6 @@ see-spec =
     (λ c. search needs)
     (λ c κs. search needs)
     (λ c. search needs)
-    see-newest-requires
+    (λ c κs. sym (buffers-check (c .before .before)) ∙ ap check-number (c .enum-told .given .1))
     returns
     (λ c. c .see-newest .ensures))

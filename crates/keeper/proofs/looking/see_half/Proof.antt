@@ -1,21 +1,56 @@
 -- `keeper::looking::see_half` meets its contract. Assumes nothing.
-use mathlib.Core.Path.{_≡_, ap, _∙_}
+use mathlib.Core.Path.{_≡_, sym, ap, subst, _∙_}
 use mathlib.Core.List.{List, [], _∷_}
 use mathlib.Core.Bool.{not}
-use mathlib.Core.Option.{Option}
-use Prim.Native.Nat.{ℕ}
+use mathlib.Core.Option.{Option, none}
+use Prim.Native.Nat.{ℕ, _+_, _*_, _≤_}
 use native.Mathlib.Omega.{arith}
-use lib.ListN.{take}
+use lib.ListN.{length}
 use borrow.Author.Needs.{needs}
 use Rattle.octets.specs.Limits.{nonce-length}
 use Rattle.octets.specs.Octets.{part}
 use Rattle.stops.specs.Stops.{first-of}
+use Rattle.stops.specs.View.{check-number}
 use Rattle.ring.specs.Ring.{half-named}
+use Rattle.checkpoint.specs.Checkpoint.{head-length}
 use Rattle.checkpoint.specs.Fram.{half-at, half-length}
 use Rattle.checkpoint.specs.Half.{open-length, stored-restarts, good-head, good-tag}
-use Rattle.checkpoint.proofs.FramLaws.{fram-sizes}
+use Rattle.checkpoint.proofs.FramLaws.{fram-sizes, half-within}
+use Rattle.protocol.specs.Operations.{look-by, stretch-by}
+use Rattle.keeper.specs.declared.types.Looked.the-variants.{Restarts}
+use Rattle.keeper.specs.Stages.{look-half}
+use Rattle.keeper.specs.Seen.{Sees}
 use Rattle.keeper.proofs.looking.see_half.Statement.{statement}
 use Rattle.keeper.proofs.looking.see_half.Tie as tie
+
+-- said of the half that the record names
+module _ (key newest fram : List ℕ) (h : ℕ) (x : h ≡ half-named newest) (half : List ℕ) (y : half ≡ half-at fram h) where
+  half-is : half ≡ half-at fram (half-named newest)
+  half-is = y ∙ ap (half-at fram) x
+
+  checked : (o : Option ℕ) (nonce : List ℕ) → nonce ≡ part newest 0 nonce-length → o ≡ first-of ((11, not (good-head half)) ∷ (12, not (good-tag key nonce half)) ∷ [])
+      → o ≡ first-of (look-half key newest fram)
+  unfolding part
+  checked o nonce n e = e ∙ (λ i. first-of ((11, not (good-head (half-is i))) ∷ (12, not (good-tag key (n i) (half-is i))) ∷ []))
+
+  found : {o : Option ℕ} (n m : ℕ) → none ≡ o → n ≡ stored-restarts half → m ≡ open-length half
+      → Sees (record { looked = Restarts n; offset = h * half-length fram + head-length; length = m }) o fram (half-named newest)
+  unfolding look-by stretch-by
+  found n m e r l = record {
+    looked = λ i. look-by (e i) ((r ∙ ap stored-restarts half-is) i);
+    stretch = λ i. stretch-by (e i) (x i * half-length fram + head-length) ((l ∙ ap open-length half-is) i);
+  }
+
+-- stops 11 and 12 as they were checked
+half-check : (c : tie.After-check-half) → let a = c .before .before .before .before .before .before .before .before .args in check-number (c .check-half .result) ≡ first-of (look-half (a .key .now) (a .«record» .now) (a .fram .now))
+half-check c =
+    let a = c .before .before .before .before .before .before .before .before .args in
+    checked (a .key .now) (a .«record» .now) (a .fram .now) _ (c .before .before .before .before .half-named .ensures) _ (c .before .before .before .half-at .ensures .0) _ _ (c .before .part .ensures .0) (c .check-half .ensures)
+
+within : (c : tie.After-half-named) → let fram = c .before .before .before .before .args .fram .now in c .half-named .result * half-length fram + half-length fram ≤ length fram
+within c =
+    let s = c .before .before .before .before in
+    half-within (s .args .fram .now) (c .half-named .result) (s .pre .0) (omega (arith, c .half-named .ensures, s .pre .3))
 
 read-head-requires : tie.Need-read-head-requires
 unfolding half-length
@@ -24,35 +59,29 @@ read-head-requires c κs =
     let z = fram-sizes (start .args .fram .now) (start .pre .0) in
     omega (arith, c .half-at .ensures .1)
 
-check-half-requires : tie.Need-check-half-requires
-check-half-requires c κs =
-    let head = c .before .read-head .ensures in
-    (c .before .before .before .before .before .before .before .pre .1, c .part .ensures .1, head .0, head .1, head .2)
+mul-t14 : tie.Need-mul-t14
+unfolding half-length
+mul-t14 c = let w = within (c .before .before .before .before .before .before) in omega arith
 
--- said of the half that the record names
-module _ (key record′ fram : List ℕ) (h : ℕ) (x : h ≡ half-named record′) (half : List ℕ) (y : half ≡ half-at fram h) where
-  half-is : half ≡ half-at fram (half-named record′)
-  half-is = y ∙ ap (half-at fram) x
-
-  checked : (o : Option ℕ) (nonce : List ℕ) → nonce ≡ part record′ 0 nonce-length → o ≡ first-of ((11, not (good-head half)) ∷ (12, not (good-tag key nonce half)) ∷ [])
-      → o ≡ first-of ((11, not (good-head (half-at fram (half-named record′)))) ∷ (12, not (good-tag key (take nonce-length record′) (half-at fram (half-named record′)))) ∷ [])
-  unfolding part
-  checked o nonce n e = e ∙ (λ i. first-of ((11, not (good-head (half-is i))) ∷ (12, not (good-tag key (n i) (half-is i))) ∷ []))
-
-  of-half : (f : List ℕ → ℕ) (v : ℕ) → v ≡ f half → v ≡ f (half-at fram (half-named record′))
-  of-half f v e = e ∙ ap f half-is
+add-t15 : tie.Need-add-t15
+unfolding half-length
+add-t15 c =
+    let w = within (c .before .before .before .before .before .before) in
+    let z = fram-sizes (c .before .before .before .before .before .before .before .before .before .before .args .fram .now) (c .before .before .before .before .before .before .before .before .before .before .pre .0) in
+    omega arith
 
 returns : tie.Need-returns
 returns c =
-    let a = c .before .before .before .before .before .before .before .before .args in
-    let number = c .before .before .before .before .half-named .ensures in
-    let half = c .before .before .before .half-at .ensures .0 in
-    let head = c .before .before .read-head .ensures in (
-      checked (a .key .now) (a .«record» .now) (a .fram .now) _ number _ half _ _ (c .before .part .ensures .0) (c .check-half .ensures),
-      number,
-      of-half (a .key .now) (a .«record» .now) (a .fram .now) _ number _ half open-length _ (head .1),
-      of-half (a .key .now) (a .«record» .now) (a .fram .now) _ number _ half stored-restarts _ (head .3),
-    )
+    let a = c .before .before .before .before .before .before .before .before .before .before .before .before .args in
+    subst (λ (o : Option ℕ). Sees (c .unseen .result) o (a .fram .now) (half-named (a .«record» .now))) (sym (ap check-number (c .before .before .check .given .1)) ∙ half-check (c .before .before .before .before))
+    (c .unseen .ensures (a .fram .now) (half-named (a .«record» .now)))
+
+returns-2 : tie.Need-returns-2
+unfolding half-length
+returns-2 c =
+    let a = c .before .before .before .before .before .before .before .before .before .before .args in
+    let head = c .before .before .before .before .read-head .ensures in
+    found (a .key .now) (a .«record» .now) (a .fram .now) _ (c .before .before .before .before .before .before .half-named .ensures) _ (c .before .before .before .before .before .half-at .ensures .0) _ _ (sym (ap check-number (c .enum-told .given .1)) ∙ half-check (c .before .before)) (head .3) (head .1)
 
 pub see-half-spec : {M : Type 1} → statement M
 see-half-spec =
@@ -62,5 +91,11 @@ see-half-spec =
     (λ c κs. search needs)
     read-head-requires
     (λ c κs. search needs)
-    check-half-requires
-    returns)
+    (λ c κs. search needs)
+    (λ c. search needs)
+    (λ c κs. search needs)
+    (λ c. search needs)
+    mul-t14
+    add-t15
+    returns
+    returns-2)

@@ -3,8 +3,8 @@ use mathlib.Core.Path.{_≡_, sym, ap, _∙_}
 use borrow.Author.Needs.{needs}
 use Rattle.stops.specs.Stops.{first-of}
 use Rattle.stops.specs.View.{check-number}
-use Rattle.ring.specs.Ring.{newest-record}
-use Rattle.keeper.proofs.LookLaws.{ring-lines, stopped-not-none, Buffers, buffers-pass, ring-tried, ring-stop, on-half, names-half, half-seen, finds}
+use Rattle.ring.specs.Ring.{read-ring, newest-record}
+use Rattle.keeper.proofs.LookLaws.{ring-lines, Buffers, buffers-pass, ring-tried, ring-stop, names-half, sees, sees-half}
 use Rattle.keeper.proofs.looking.see_newest.Statement.{statement}
 use Rattle.keeper.proofs.looking.see_newest.Tie as tie
 
@@ -22,6 +22,13 @@ ring-check c =
     ring-tried (a .pages) (a .slots) (a .ring .now) (a .fram .now) (a .key .now) _ _ _ _ _ (c .before .before .before .before .read-ring .ensures .0) (c .before .before .before .is-blank .ensures) (c .before .is-unreadable .ensures)
     (c .before .before .stop-if .ensures) (c .stop-if2 .ensures)
 
+-- the record that was found
+record-is : (c : tie.After-record) → let a = start (c .before .before .before .before .before .before .before) .args in
+    c .«record» .result .now ≡ newest-record (a .ring .now) (a .slots) (read-ring (a .ring .now) (a .pages) (a .slots))
+record-is c =
+    let read = c .before .before .before .before .before .before .before in
+    c .«record» .ensures .0 ∙ ap (newest-record (start read .args .ring .now) (start read .args .slots)) (read .read-ring .ensures .0)
+
 record-requires : tie.Need-record-requires
 record-requires c κs =
     let read = c .before .before .before .before .before .before in
@@ -35,37 +42,29 @@ see-half-requires c κs =
       f .fram-right,
       f .key-long,
       c .«record» .ensures .1,
-      names-half (a .pages) (a .slots) (a .ring .now) (a .fram .now) (a .key .now) _ _ (read .read-ring .ensures .0) (c .«record» .ensures .0) (f .ring-right)
-          (sym (ring-check (c .before .before .before)) ∙ ap check-number (c .before .enum-told .given .1)),
+      names-half (a .pages) (a .slots) (a .ring .now) (a .fram .now) (a .key .now) _ (record-is c) (f .ring-right) (sym (ring-check (c .before .before .before)) ∙ ap check-number (c .before .enum-told .given .1)),
     )
 
 returns : tie.Need-returns
 returns c =
-    let a = start (c .before .before .before .before .before .before .before .before) .args in
-    let none-else = c .nothing-seen .ensures in (
-      none-else ∙ sym (ring-stop (a .pages) (a .slots) (a .ring .now) (a .fram .now) (a .key .now) (start (c .before .before .before .before .before .before .before .before) .pre)
-          (sym (ring-check (c .before .before .before .before)) ∙ ap check-number (c .before .before .check .given .1))),
-      λ e. stopped-not-none (sym none-else ∙ e),
-    )
+    let s = start (c .before .before .before .before .before .before .before .before) in
+    let a = s .args in
+    sees (a .pages) (a .slots) (a .ring .now) (a .fram .now) (a .key .now) _
+    (ring-stop (a .pages) (a .slots) (a .ring .now) (a .fram .now) (a .key .now) (s .pre) (sym (ring-check (c .before .before .before .before)) ∙ ap check-number (c .before .before .check .given .1)))
+    (c .unseen .ensures _ _)
 
 returns-2 : tie.Need-returns-2
 returns-2 c =
-    let read = c .before .before .before .before .before .before .before .before in
-    let a = start read .args in
-    let seen = c .see-half .ensures in
-    let found = c .before .«record» .ensures .0 ∙ ap (newest-record (a .ring .now) (a .slots)) (read .read-ring .ensures .0) in
-    let passed = sym (ring-check (c .before .before .before .before)) ∙ ap check-number (c .before .before .enum-told .given .1) in (
-      half-seen (a .pages) (a .slots) (a .ring .now) (a .fram .now) (a .key .now) _ found _ (seen .0) ∙ sym (on-half (a .pages) (a .slots) (a .ring .now) (a .fram .now) (a .key .now) (start read .pre) passed),
-      λ e. finds (a .pages) (a .slots) (a .ring .now) (a .fram .now) (a .key .now) _ found _ (seen .1) (seen .2) (seen .3),
-    )
+    let s = start (c .before .before .before .before .before .before .before .before) in
+    let a = s .args in
+    sees-half (a .pages) (a .slots) (a .ring .now) (a .fram .now) (a .key .now) _ _ (record-is (c .before)) (s .pre)
+    (sym (ring-check (c .before .before .before .before)) ∙ ap check-number (c .before .before .enum-told .given .1)) (c .see-half .ensures)
 
 pub see-newest-spec : {M : Type 1} → statement M
 see-newest-spec =
     tie.close
     (tie.spec
-    (λ c κs.
-    let a = c .before .before .before .args in
-    buffers-pass (a .pages) (a .slots) (a .ring .now) (a .fram .now) (a .key .now) (c .before .before .before .pre) .ring-right)
+    (λ c κs. let s = c .before .before .before in buffers-pass (s .args .pages) (s .args .slots) (s .args .ring .now) (s .args .fram .now) (s .args .key .now) (s .pre) .ring-right)
     (λ c κs. search needs)
     (λ c κs. search needs)
     (λ c κs. search needs)

@@ -12,7 +12,7 @@ returns c =
     let a = c .before .before .before .before .before .before .before .before .before .before .before .before .before .args in
     let call = powers-up (a .pages) (a .slots) (a .key .now) (a .nonce .now) (a .staging .now) (a .state .now) in
     power-up-stops (a .ring .now) (a .fram .now) call _ (c .not-resumed .ensures (a .staging .now) (a .state .now))
-    (buffers-stop (a .ring .now) (a .fram .now) call (sym (c .before .before .before .before .check-power-up .ensures) ∙ ap check-number (c .before .before .check .given .1)))
+    (buffers-stop (a .ring .now) (a .fram .now) call (sym (c .before .before .before .before .check-power-up-buffers .ensures) ∙ ap check-number (c .before .before .check .given .1)))
 
 pub power-up-spec : {M : Type 1} → statement M
 power-up-spec =
@@ -22,7 +22,7 @@ power-up-spec =
     (λ c. search needs)
     (λ c κs. search needs)
     (λ c. search needs)
-    (λ c κs. sym (c .before .before .before .before .check-power-up .ensures) ∙ ap check-number (c .before .before .enum-told .given .1))
+    (λ c κs. sym (c .before .before .before .before .check-power-up-buffers .ensures) ∙ ap check-number (c .before .before .enum-told .given .1))
     (λ c. search needs)
     (λ c. search needs)
     returns

@@ -4,7 +4,7 @@ use native.Mathlib.Omega.{arith}
 use borrow.Author.Needs.{needs}
 use Rattle.stops.specs.View.{check-number}
 use Rattle.checkpoint.proofs.StoredLaws.{head-facts}
-use Rattle.keeper.specs.View.{view-phase}
+use Rattle.jobs.specs.View.{view-phase}
 use Rattle.keeper.proofs.ResumeLaws.{restore-stops, restore-begins}
 use Rattle.keeper.proofs.resuming.restore.Statement.{statement}
 use Rattle.keeper.proofs.resuming.restore.Tie as tie

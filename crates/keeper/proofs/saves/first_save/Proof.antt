@@ -10,17 +10,17 @@ use Rattle.keeper.proofs.SaveLaws.{first-lengths, first-stops, first-be
 use Rattle.keeper.proofs.saves.first_save.Statement.{statement}
 use Rattle.keeper.proofs.saves.first_save.Tie as tie
 
-abbrev start : tie.After-check-first-save → tie.Start
+abbrev start : tie.After-first-save-check → tie.Start
 start c = c .before .before .before .before .before .before .before .before .before .before
 
-abbrev call : tie.After-check-first-save → FirstSave
+abbrev call : tie.After-first-save-check → FirstSave
 call c =
     let a = start c .args in
     first-saves (save-arguments (a .pages) (a .slots) (a .key .now) (a .nonce .now) (a .«open» .now) (a .secret .now) (a .staging .now)) (a .starting-tag .now)
 
 passed : (c : tie.After-enum-told) → let checked = c .before .before in
     first-save-stop (start checked .args .ring .now) (start checked .args .fram .now) (call checked) ≡ none
-passed c = sym (c .before .before .check-first-save .ensures) ∙ ap check-number (c .enum-told .given .1)
+passed c = sym (c .before .before .first-save-check .ensures) ∙ ap check-number (c .enum-told .given .1)
 
 begin-save-requires : tie.Need-begin-save-requires
 begin-save-requires c κs =
@@ -32,7 +32,7 @@ returns : tie.Need-returns
 returns c =
     let checked = c .before .before .before .before in
     let a = start checked .args in
-    first-stops (a .ring .now) (a .fram .now) (call checked) _ (c .not-begun .ensures (a .staging .now)) (sym (checked .check-first-save .ensures) ∙ ap check-number (c .before .before .check .given .1))
+    first-stops (a .ring .now) (a .fram .now) (call checked) _ (c .not-begun .ensures (a .staging .now)) (sym (checked .first-save-check .ensures) ∙ ap check-number (c .before .before .check .given .1))
 
 returns-2 : tie.Need-returns-2
 returns-2 c =

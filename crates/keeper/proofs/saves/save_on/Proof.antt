@@ -1,0 +1,100 @@
+-- `keeper::saves::save_on` meets its contract. Assumes nothing.
+use mathlib.Core.Path.{_≡_, sym, ap, _∙_}
+use mathlib.Core.Option.{none}
+use Prim.Native.Nat.{ℕ, _-_, _≤_}
+use native.Mathlib.Omega.{arith}
+use borrow.Author.Needs.{needs}
+use Rattle.stops.specs.Stops.{first-of}
+use Rattle.stops.specs.View.{check-number}
+use Rattle.stops.proofs.Laws.{passes}
+use Rattle.ring.specs.Ring.{Newest, read-ring, newest-record, half-named, target-page, target-slot}
+use Rattle.ring.proofs.NewestLaws.{newest-half-fits}
+use Rattle.protocol.specs.Calls.{Saves}
+use Rattle.jobs.specs.View.{view-session}
+use Rattle.keeper.specs.View.{save-arguments, saves}
+use Rattle.keeper.specs.Stages.{save-ring}
+use Rattle.keeper.proofs.SaveLaws.{Buffers, buffers-pass, ring-lines, on-ring, save-stops, save-begins}
+use Rattle.keeper.proofs.saves.save_on.Statement.{statement}
+use Rattle.keeper.proofs.saves.save_on.Tie as tie
+
+abbrev start : tie.After-read-ring → tie.Start
+start c = c .before .before .before .before .before .before .before .before
+
+abbrev call : tie.After-read-ring → Saves
+call c =
+    let a = start c .args in
+    saves (save-arguments (a .pages) (a .slots) (a .key .now) (a .nonce .now) (a .«open» .now) (a .secret .now) (a .staging .now)) (a .session)
+
+buffers : (c : tie.After-read-ring) → Buffers (start c .args .ring .now) (start c .args .fram .now) (call c .arguments)
+buffers c = buffers-pass (start c .args .ring .now) (start c .args .fram .now) (call c .arguments) (start c .pre)
+
+ring-check : (c : tie.After-check-save-ring) → let read = c .before in
+    check-number (c .check-save-ring .result) ≡ first-of (ring-lines (start read .args .ring .now) (start read .args .fram .now) (call read))
+ring-check c =
+    let a = start (c .before) .args in
+    c .check-save-ring .ensures ∙ ap (λ (n : Newest). first-of (save-ring (a .ring .now) (a .slots) n (view-session (a .session)) (a .nonce .now))) (c .before .read-ring .ensures .0)
+
+passed : (c : tie.After-enum-told) → let read = c .before .before .before in
+    first-of (ring-lines (start read .args .ring .now) (start read .args .fram .now) (call read)) ≡ none
+passed c = sym (ring-check (c .before .before)) ∙ ap check-number (c .enum-told .given .1)
+
+-- the record that was found, and the half that it names
+record-is : (c : tie.After-record) → let read = c .before .before .before .before in let a = start read .args in
+    c .«record» .result .now ≡ newest-record (a .ring .now) (a .slots) (read-ring (a .ring .now) (a .pages) (a .slots))
+record-is c =
+    let read = c .before .before .before .before in
+    let a = start read .args in
+    c .«record» .ensures .0 ∙ ap (newest-record (a .ring .now) (a .slots)) (read .read-ring .ensures .0)
+
+half-fits : (c : tie.After-half-named) → c .half-named .result ≤ 1
+half-fits c =
+    let read = c .before .before .before .before .before in
+    let a = start read .args in
+    let p = passes _ (passed (c .before .before)) in
+    let fits = newest-half-fits (a .pages) (a .slots) (a .ring .now) (buffers read .ring-right) (p .0) (p .1 .0) in
+    let named = c .half-named .ensures ∙ ap half-named (record-is (c .before)) in
+    omega (arith, fits, named)
+
+begin-save-requires : tie.Need-begin-save-requires
+begin-save-requires c κs =
+    let l = buffers (c .before .before .before .before .before .before .before .before .before .before) .lengths-right in
+    (l .key, l .nonce, search (needs, c .before .before .before .before .before .before .before .before .before .before .before .before .before .before .before .before .before .before .blocks, c .before .before .before .before .before .before .before .before .before .before .before .before .before .before .before .before .before .before .good), l .open-part, l .secret, l .staging)
+
+returns : tie.Need-returns
+returns c =
+    let checked = c .before .before .before .before in
+    let a = start (checked .before) .args in
+    save-stops (a .ring .now) (a .fram .now) (call (checked .before)) _ (c .not-begun .ensures (a .staging .now))
+    (on-ring (a .ring .now) (a .fram .now) (call (checked .before)) (start (checked .before) .pre) ∙ sym (ring-check checked) ∙ ap check-number (c .before .before .check .given .1))
+
+returns-2 : tie.Need-returns-2
+returns-2 c =
+    let read = c .before .before .before .before .before .before .before .before .before .before .before .before .before in
+    let a = start read .args in
+    let n = read .read-ring .ensures .0 in
+    save-begins (a .ring .now) (a .fram .now) (call read) _ _ _ _
+    (ap (λ (h : ℕ). 1 - h) (c .before .before .before .before .before .before .before .before .half-named .ensures ∙ ap half-named (record-is (c .before .before .before .before .before .before .before .before .before))))
+    (c .before .before .before .before .before .before .before .target-page .ensures ∙ ap (target-page (a .pages) (a .slots)) n) (c .before .before .before .before .before .before .target-slot .ensures ∙ ap (target-slot (a .slots)) n)
+    (c .before .before .begin-save .ensures) (on-ring (a .ring .now) (a .fram .now) (call read) (start read .pre) ∙ passed (c .before .before .before .before .before .before .before .before .before .before))
+
+pub save-on-spec : {M : Type 1} → statement M
+save-on-spec =
+    tie.close
+    (tie.spec
+    (λ c κs.
+    let a = c .before .before .before .before .before .before .before .args in
+    buffers-pass (a .ring .now) (a .fram .now) (save-arguments (a .pages) (a .slots) (a .key .now) (a .nonce .now) (a .«open» .now) (a .secret .now) (a .staging .now)) (c .before .before .before .before .before .before .before .pre) .ring-right)
+    (λ c κs. (buffers c .ring-right, c .read-ring .ensures .1))
+    (λ c. search needs)
+    (λ c κs. search needs)
+    (λ c. search needs)
+    (λ c κs. (buffers (c .before .before .before) .ring-right, c .before .before .before .read-ring .ensures .1))
+    (λ c κs. search needs)
+    (λ c. half-fits c)
+    (λ c κs. c .before .before .before .before .before .read-ring .ensures .1)
+    (λ c κs. c .before .before .before .before .before .before .read-ring .ensures .1 .slot-in)
+    (λ c. search (needs, c .before .before .before .before .before .before .before .before .before .before .before .before .before .before .before .before .before .blocks, c .before .before .before .before .before .before .before .before .before .before .before .before .before .before .before .before .before .good))
+    begin-save-requires
+    returns
+    (λ c. search needs)
+    returns-2)
