@@ -1,7 +1,7 @@
 //! Document 01, "Runs, cuts and the book". The book never sees the memories.
 
+use crate::layout::Checkpoint;
 use crate::operations::Origin;
-use crate::papers::Checkpoint;
 
 #[derive(Clone, Copy, Debug, PartialEq)]
 pub enum Store {

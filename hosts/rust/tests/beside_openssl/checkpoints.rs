@@ -1,6 +1,6 @@
 //! Sealed checkpoints, byte for byte, as they stand in staging after each start and in the FRAM after the last store.
 
-use crate::papers::{half_of, tag_of, Checkpoint};
+use crate::layout::{half_of, tag_of, Checkpoint};
 use crate::random::Random;
 use godwitshelf::*;
 

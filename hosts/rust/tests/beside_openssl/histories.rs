@@ -47,10 +47,11 @@ fn every_answer() -> Vec<(Operation, u32)> {
 
 fn generated(seed: u64) -> History {
     let mut random = Random::new(seed);
-    let setup = match random.below(40) {
-        // Long checkpoints and a ring of the largest size are slow, so they are few.
+    let setup = match random.below(60) {
+        // Long checkpoints and memories of the largest size are slow, so they are few.
         0 => Setup { pages: 32, slots: 512, fram: 88 + 8 * random.below(10), seed },
         1 => Setup { pages: 3, slots: 2, fram: 2 * (44 + 4096 + 4096), seed },
+        2 => Setup { pages: 3, slots: 2, fram: 131_072, seed },
         _ => Setup {
             pages: random.pick(&[3, 3, 3, 4, 4, 5, 6, 8, 32]),
             slots: random.pick(&[2, 2, 2, 3, 3, 4, 5, 8]),
@@ -66,21 +67,20 @@ fn generated(seed: u64) -> History {
     if random.chance(9, 10) {
         let (open, secret) = part_sizes(&mut random, &setup);
         events.push(Event::FirstSave { open, secret, fill: seed });
-        events.push(Event::Advance(usize::MAX));
+        events.push(Event::AllBut(0));
     }
     while events.len() < count {
         match random.below(100) {
             0..40 => {
                 events.push(start(&mut random, &setup, saves));
-                events.push(Event::Advance(usize::MAX));
+                events.push(Event::AllBut(0));
             }
             40..55 => {
                 events.push(start(&mut random, &setup, saves));
-                let stores = stores_of(events.last().unwrap(), &setup);
                 // Mostly near the end, where record and erase are.
-                let times =
-                    if random.chance(2, 3) { stores.saturating_sub(random.below(4)) } else { random.below(stores) };
-                events.push(Event::Advance(times));
+                let stores = random.below(4);
+                let times = random.below(setup.fram / 8 + 2);
+                events.push(if random.chance(2, 3) { Event::AllBut(stores) } else { Event::Advance(times) });
                 events.push(if random.chance(4, 5) { Event::CutInto(left(&mut random)) } else { Event::Cut });
             }
             55..60 => events.push(start(&mut random, &setup, saves)),
@@ -96,8 +96,9 @@ fn generated(seed: u64) -> History {
 
 fn part_sizes(random: &mut Random, setup: &Setup) -> (usize, usize) {
     let room = (setup.fram / 2 - 44) / 4;
-    let open = random.below(room.min(1024) + 1);
-    let secret = random.pick(&[0, 1, 2, 3]).max(random.clone().below((room - open).min(1024) + 1)).min(room - open);
+    let most = if setup.fram == 131_072 { 20 } else { room.min(1024) };
+    let open = random.below(most + 1);
+    let secret = random.below(most.min(room - open) + 1);
     (4 * open, 4 * secret)
 }
 
@@ -112,14 +113,6 @@ fn start(random: &mut Random, setup: &Setup, saves: usize) -> Event {
         return Event::Save { session_back, open, secret, fill };
     }
     Event::PowerUp
-}
-
-/// About how many stores a start leads to.
-fn stores_of(event: &Event, setup: &Setup) -> usize {
-    match event {
-        Event::FirstSave { open, secret, .. } | Event::Save { open, secret, .. } => (44 + open + secret) / 4 + 2,
-        _ => setup.fram / 8 + 2,
-    }
 }
 
 fn left(random: &mut Random) -> Left {
@@ -313,7 +306,7 @@ fn simpler_events(event: &Event) -> Vec<Event> {
             }
             less
         }
-        Event::Advance(usize::MAX) => vec![],
+        Event::AllBut(left) if left > 0 => vec![Event::AllBut(0), Event::AllBut(left - 1)],
         Event::Advance(times) if times > 1 => vec![Event::Advance(times / 2), Event::Advance(times - 1)],
         Event::CutInto(left) if !matches!(left, Left::Nothing | Left::Whole | Left::Every(_)) => {
             [Left::Nothing, Left::Whole, Left::Every(0)].map(Event::CutInto).to_vec()

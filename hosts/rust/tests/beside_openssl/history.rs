@@ -1,8 +1,8 @@
 //! Histories: what happens to a unit, event by event, and calls with something wrong among them.
 
 use crate::compare::call;
+use crate::layout::{half_of, read_ring, record, word, Checkpoint, Newest, Reading};
 use crate::operations::*;
-use crate::papers::{half_of, read_ring, record, word, Checkpoint, Newest, Reading};
 use crate::random::Random;
 use crate::unit::{stopped, Left, Setup, Unit};
 use std::fmt;
@@ -30,6 +30,8 @@ pub enum Event {
     PowerUp,
     /// So many advances, or fewer where the job is done before.
     Advance(usize),
+    /// Advances until so many stores are left.
+    AllBut(usize),
     Look,
     Cut,
     CutInto(Left),
@@ -118,6 +120,7 @@ impl Event {
                 unit.power_up()?;
             }
             Event::Advance(times) => return advance(unit, times),
+            Event::AllBut(left) => return advance(unit, unit.book.to_come().len().saturating_sub(left)),
             Event::Look => unit.look()?,
             Event::Cut => unit.cut(),
             Event::CutInto(left) => unit.cut_into(left)?,
@@ -128,19 +131,19 @@ impl Event {
     }
 }
 
-/// A trial after each advance; for a long checkpoint, whose words are much alike, after one in 16 of them and in the end.
+/// A trial after each advance; in a long checkpoint, whose words are much alike, after some 16 of them, and after the last.
 fn advance(unit: &mut Unit, times: usize) -> Result<(), String> {
     let every = 1 + unit.book.to_come().len() / 128 * 8;
     for i in 0..times {
         let answer = unit.advance()?;
-        if i % every == 0 || unit.book.to_come().len() < 3 || i + 1 == times {
+        if i % every == 0 || unit.book.to_come().len() < 3 {
             unit.trial()?;
         }
         if answer != GOING_ON {
             break;
         }
     }
-    Ok(())
+    unit.trial()
 }
 
 /// The call, and if it does not stop some advances of the job that it answers.
@@ -329,7 +332,8 @@ impl fmt::Display for Event {
                 write!(f, "save with the session {session_back} before the last, open part {open} bytes, secret part {secret}")
             }
             Event::PowerUp => write!(f, "power-up"),
-            Event::Advance(usize::MAX) => write!(f, "advances to the end"),
+            Event::AllBut(0) => write!(f, "advances to the end"),
+            Event::AllBut(left) => write!(f, "advances until {left} stores are left"),
             Event::Advance(times) => write!(f, "{times} advances"),
             Event::Look => write!(f, "look"),
             Event::Cut => write!(f, "cut between two calls"),

@@ -1,7 +1,7 @@
 //! Document 01, "What the unit calls" and "Stops, by the place of checking": what each call answers and leaves. Jobs and
 //! sessions are the bytes that the calls for C lay down.
 
-use crate::papers::*;
+use crate::layout::*;
 
 /// All that a call can be lent. A call uses some of it; none changes on a stop.
 #[derive(Clone, PartialEq)]

@@ -2,8 +2,8 @@
 
 use crate::book::{self, Book, Cut};
 use crate::compare::call;
+use crate::layout::{blank, half_of, read_ring, Reading};
 use crate::operations::*;
-use crate::papers::{blank, half_of, read_ring, Reading};
 use crate::random::Random;
 
 #[derive(Clone, Debug)]
@@ -110,8 +110,6 @@ impl Unit {
     pub fn new(setup: &Setup) -> Unit {
         let mut random = Random::new(setup.seed);
         let key = random.bytes(32);
-        let staging = setup.fram / 2 + random.pick(&[0, 0, 1, 20]);
-        let state = 4096 + random.pick(&[0, 0, 1, 20]);
         let lent = Lent {
             pages: setup.pages,
             slots: setup.slots,
@@ -123,9 +121,9 @@ impl Unit {
             session: random.bytes(40),
             open_part: vec![],
             secret: vec![],
-            staging: random.bytes(staging),
-            state: random.bytes(state),
-            job: vec![0; 56],
+            staging: vec![],
+            state: vec![],
+            job: vec![],
             secret_len: random.below(5000),
             restarts: random.next() as u32,
             open_start: random.below(5000),
@@ -133,7 +131,9 @@ impl Unit {
         };
         let nonces = Nonces::new(&mut random);
         let book = Book::new(&key, setup.slots);
-        Unit { lent, book, sessions: vec![], jobs: vec![], starts: 0, nonces, random }
+        let mut unit = Unit { lent, book, sessions: vec![], jobs: vec![], starts: 0, nonces, random };
+        unit.restarted();
+        unit
     }
 
     /// A nonce that no start used that did not stop.
@@ -283,12 +283,12 @@ impl Unit {
         Ok(())
     }
 
-    /// "The job is gone", and with it what the buffers held.
+    /// "The job is gone", and with it what the buffers held; they may have other lengths now.
     fn restarted(&mut self) {
+        let more = self.random.pick(&[0, 0, 1, 20]);
         self.lent.job = self.random.bytes(56);
-        let (staging, state) = (self.lent.staging.len(), self.lent.state.len());
-        self.lent.staging = self.random.bytes(staging);
-        self.lent.state = self.random.bytes(state);
+        self.lent.staging = self.random.bytes(self.lent.fram.len() / 2 + more);
+        self.lent.state = self.random.bytes(4096 + more);
     }
 
     /// Demand 3 at the end of the list: a power-up on copies of the memories, with a new nonce and other buffers.
