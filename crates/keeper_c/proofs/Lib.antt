@@ -3,3 +3,4 @@ mod AdvanceLaws
 mod BytesLaws
 mod LookLaws
 mod SealLaws
+mod StartLaws

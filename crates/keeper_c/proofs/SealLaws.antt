@@ -3,16 +3,15 @@ use Prim.Native.Nat.{ℕ}
 use mathlib.Core.Path.{_≡_, refl, sym, ap, ap₂, _∙_}
 use mathlib.Core.Bool.{Bool, true, false, not, _||_}
 use mathlib.Core.Option.{Option, none, some}
-use mathlib.Core.List.{List, [], _∷_, append-nil}
+use mathlib.Core.List.{List, append-nil}
 use native.Mathlib.Omega.{arith}
 use borrow.Author.Tests.{eqb-true}
 use lib.Dec.{eqb}
-use lib.ListN.{length, drop, drop-of-length-le}
+use lib.ListN.{length, drop-of-length-le}
 use Rattle.octets.specs.Limits.{tag-length}
 use Rattle.octets.specs.Octets.{put}
 use Rattle.octets.proofs.Laws.{put-front}
 use Rattle.stops.specs.Stops.{first-of}
-use Rattle.gcm.specs.Gcm.{encrypted}
 use Rattle.gcm.specs.Calls.{Sealing, key-wrong, nonce-wrong, tag-wrong, seal-stop, sealing-at, sealing}
 use Rattle.keeper_c.specs.Calls.{answer, sealing-left, sealing-stop, sealing-by, sealing-call}
 

@@ -11,10 +11,10 @@ use Rattle.gcm.specs.Gcm.{encrypted, tag}
 use Rattle.gcm.specs.Calls.{key-wrong, nonce-wrong, tag-wrong, buffers-wrong}
 use Rattle.ring.specs.Ring.{ring-wrong}
 use Rattle.checkpoint.specs.Fram.{fram-wrong}
-use Rattle.protocol.specs.Types.{Session, Stretch, Looked, Restarts, Unseen, Progress, GoingOn, Saved, Restored, Refused}
-use Rattle.protocol.specs.Calls.{Sizes, FirstSave, Saves, PowersUp, Looks, Advances}
+use Rattle.protocol.specs.Types.{Job, Session, Stretch, Start, Begun, Stopped, Looked, Restarts, Unseen, Progress, GoingOn, Saved, Restored, Refused}
+use Rattle.protocol.specs.Calls.{Sizes, SaveArguments, FirstSave, Saves, PowersUp, Looks, Advances}
 use Rattle.protocol.specs.Operations.{Begin, Moved, staging-wrong, first-save-stop, first-save, save-stop, save, power-up-stop, power-up, look, open-stretch, job-wrong, advance}
-use Rattle.keeper_c.specs.Bytes.{job-length, session-length, job-bytes, session-bytes, job-in}
+use Rattle.keeper_c.specs.Bytes.{job-length, session-length, job-bytes, session-bytes, job-in, session-in}
 
 -- 0, or the number of a stop
 abbrev pub answer : Option ℕ → ℕ
@@ -54,28 +54,47 @@ pub record Starting : Type 0 where
   pub job : List ℕ
   pub secret-length : ℕ
 
+abbrev pub starting-left : ℕ → (staging state job : List ℕ) → ℕ → Starting
+starting-left r staging state job secret-length = record { answer = r; staging = staging; state = state; job = job; secret-length = secret-length }
+
+-- a save has no state buffer, and restores nothing
+abbrev pub saving-left : ℕ → (staging job : List ℕ) → Starting
+saving-left r staging job = starting-left r staging [] job 0
+
+abbrev pub start-number : Start → ℕ
+start-number Begun = 0
+start-number (Stopped n) = n
+
+-- what a start leaves in the buffer for its job, and behind the pointer to the secret part's length
+abbrev pub job-after : Start → Job → List ℕ → List ℕ
+job-after Begun made job = job-bytes made
+job-after (Stopped n) made job = job
+
+abbrev pub length-after : Start → ℕ → ℕ → ℕ
+length-after Begun restored stood = restored
+length-after (Stopped n) restored stood = stood
+
 -- 14 of the buffer for the job is tried after all other stops
 abbrev pub with-job : Option ℕ → List ℕ → Option ℕ
 with-job stop job = then-stop stop 14 (not (eqb (length job) job-length))
 
 -- from the stop, what the operation answers and leaves, and what stood behind the pointers
 abbrev pub starting-by : Option ℕ → Begin → (staging state job : List ℕ) → ℕ → Starting
-starting-by (some n) b staging state job secret-length = record { answer = n; staging = staging; state = state; job = job; secret-length = secret-length }
-starting-by none b staging state job secret-length =
-    record { answer = 0; staging = b .staging; state = b .state; job = job-bytes (b .job); secret-length = b .secret-length }
+starting-by (some n) b staging state job secret-length = starting-left n staging state job secret-length
+starting-by none b staging state job secret-length = starting-left 0 (b .staging) (b .state) (job-bytes (b .job)) (b .secret-length)
+
+-- the session is read from its buffer
+abbrev pub saves-in : SaveArguments → List ℕ → Saves
+saves-in a session = record { arguments = a; session = session-in session }
 
 module _ (ring fram : List ℕ) where
-  -- a save has no state buffer, and restores nothing
-  abbrev pub saving-left : ℕ → List ℕ → List ℕ → Starting
-  saving-left r staging job = record { answer = r; staging = staging; state = []; job = job; secret-length = 0 }
-
-  unfoldable pub first-save-call : FirstSave → List ℕ → Starting
+  unfoldable pub first-save-call : FirstSave → (job : List ℕ) → Starting
   first-save-call a job = starting-by (with-job (first-save-stop ring fram a) job) (first-save ring fram a) (a .arguments .staging) [] job 0
 
-  unfoldable pub save-call : Saves → List ℕ → Starting
+  unfoldable pub save-call : Saves → (job : List ℕ) → Starting
   save-call a job = starting-by (with-job (save-stop ring fram a) job) (save ring fram a) (a .arguments .staging) [] job 0
 
-  unfoldable pub power-up-call : PowersUp → List ℕ → ℕ → Starting
+  unfoldable pub power-up-call : PowersUp → (job : List ℕ) → ℕ → Starting
   power-up-call a job secret-length = starting-by (with-job (power-up-stop ring fram a) job) (power-up ring fram a) (a .staging) (a .state) job secret-length
 
 -- ---- look

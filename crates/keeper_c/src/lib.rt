@@ -3,9 +3,13 @@
 mod bytes;
 mod calls;
 mod cipher;
+mod starts;
 
 pub use calls::keeper_advance;
 pub use calls::keeper_look;
 pub use cipher::keeper_open;
 pub use cipher::keeper_seal;
 pub use cipher::keeper_wipe;
+pub use starts::keeper_first_save;
+pub use starts::keeper_power_up;
+pub use starts::keeper_save;

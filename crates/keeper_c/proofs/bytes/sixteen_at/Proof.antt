@@ -1,8 +1,7 @@
 -- `keeper_c::bytes::sixteen_at` meets its contract. Assumes nothing.
-use mathlib.Core.Path.{ap, _∙_}
+use mathlib.Core.Path.{_∙_}
 use native.Mathlib.Omega.{arith}
 use borrow.Author.Needs.{needs}
-use Rattle.octets.specs.Octets.{put}
 use Rattle.octets.proofs.Lent.{over}
 use Rattle.keeper_c.proofs.bytes.sixteen_at.Statement.{statement}
 use Rattle.keeper_c.proofs.bytes.sixteen_at.Tie as tie

@@ -1,0 +1,168 @@
+// First save, save and power-up.
+use crate::bytes::JOB_LENGTH;
+use crate::bytes::put_job;
+use crate::bytes::session_in;
+use crate::cipher::answer;
+use jobs::Job;
+use keeper::Start;
+use keeper::first_save;
+use keeper::first_save_check;
+use keeper::power_up;
+use keeper::power_up_check;
+use keeper::save;
+use keeper::save_check;
+use stops::Stop;
+use stops::stop_number;
+ghost use mathlib.Core.Path.{_≡_};
+ghost use lib.ListN.{length};
+ghost use Rattle.jobs.specs.View.{view-job};
+ghost use Rattle.keeper.specs.View.{view-start, save-arguments, first-saves, powers-up};
+ghost use Rattle.keeper_c.specs.Bytes.{job-length};
+ghost use Rattle.keeper_c.specs.Calls.{start-number, job-after, length-after, starting-left, saving-left, saves-in, first-save-call, save-call, power-up-call};
+
+// Writes the job of a start that began; 0, or the number of its stop.
+fn put_started(start: Start, made: Job, job: &mut [u8]) -> u32
+    requires { ⌜ length (now job) ≡ job-length ⌝ }
+    ensures { λ r. ⌜ (r ≡ start-number (view-start start)) × (now (job .exit) ≡ job-after (view-start start) (view-job made) (now (job .entry))) ⌝ }
+{
+    match start {
+        Start::Stopped(stop) => stop_number(stop),
+        Start::Begun => {
+            put_job(job, made);
+            0
+        }
+    }
+}
+
+// The length of the secret part that a power-up restored, or where it stopped the number that stood there.
+fn length_after(start: Start, restored: usize, stood: usize) -> usize
+    ensures { λ r. ⌜ r ≡ length-after (view-start start) restored stood ⌝ }
+{
+    match start {
+        Start::Stopped(_) => stood,
+        Start::Begun => restored,
+    }
+}
+
+// Seals the unit's first checkpoint into staging, and writes the job that stores it.
+#[no_mangle]
+pub extern "C" fn keeper_first_save(
+    pages: usize,
+    slots: usize,
+    ring: &[u8],
+    fram: &[u8],
+    key: &[u8],
+    nonce: &[u8],
+    starting_tag: &[u8],
+    open_part: &[u8],
+    secret: &[u8],
+    staging: &mut [u8],
+    job: &mut [u8],
+) -> u32
+    ensures { λ r. ⌜ saving-left r (now (staging .exit)) (now (job .exit)) ≡ first-save-call (now (ring .entry)) (now (fram .entry)) (first-saves (save-arguments pages slots (now (key .entry)) (now (nonce .entry)) (now («open_part» .entry)) (now (secret .entry)) (now (staging .entry))) (now («starting_tag» .entry))) (now (job .entry)) ⌝ }
+{
+    if job.len() != JOB_LENGTH {
+        let check = first_save_check(
+            pages,
+            slots,
+            ring,
+            fram,
+            key,
+            nonce,
+            starting_tag,
+            open_part,
+            secret,
+            staging,
+        );
+        return answer(check.stop_if(true, Stop::BadJob));
+    }
+    let started = first_save(
+        pages,
+        slots,
+        ring,
+        fram,
+        key,
+        nonce,
+        starting_tag,
+        open_part,
+        secret,
+        staging,
+    );
+    let start = started.start;
+    put_started(start, started.job, job)
+}
+
+// Seals the next checkpoint into staging, and writes the job that stores it.
+#[no_mangle]
+pub extern "C" fn keeper_save(
+    pages: usize,
+    slots: usize,
+    ring: &[u8],
+    fram: &[u8],
+    key: &[u8],
+    nonce: &[u8],
+    session: &[u8],
+    open_part: &[u8],
+    secret: &[u8],
+    staging: &mut [u8],
+    job: &mut [u8],
+) -> u32
+    ensures { λ r. ⌜ saving-left r (now (staging .exit)) (now (job .exit)) ≡ save-call (now (ring .entry)) (now (fram .entry)) (saves-in (save-arguments pages slots (now (key .entry)) (now (nonce .entry)) (now («open_part» .entry)) (now (secret .entry)) (now (staging .entry))) (now (session .entry))) (now (job .entry)) ⌝ }
+{
+    let given = session_in(session);
+    if job.len() != JOB_LENGTH {
+        let check = save_check(
+            given,
+            pages,
+            slots,
+            ring,
+            fram,
+            key,
+            nonce,
+            open_part,
+            secret,
+            staging,
+        );
+        return answer(check.stop_if(true, Stop::BadJob));
+    }
+    let started = save(
+        given,
+        pages,
+        slots,
+        ring,
+        fram,
+        key,
+        nonce,
+        open_part,
+        secret,
+        staging,
+    );
+    let start = started.start;
+    put_started(start, started.job, job)
+}
+
+// Opens the newest checkpoint into state, seals it anew into staging, and writes the job that stores it and the length of the secret part.
+#[no_mangle]
+pub extern "C" fn keeper_power_up(
+    pages: usize,
+    slots: usize,
+    ring: &[u8],
+    fram: &[u8],
+    key: &[u8],
+    nonce: &[u8],
+    staging: &mut [u8],
+    state: &mut [u8],
+    job: &mut [u8],
+    secret_len: &mut usize,
+) -> u32
+    ensures { λ r. ⌜ starting-left r (now (staging .exit)) (now (state .exit)) (now (job .exit)) (now («secret_len» .exit)) ≡ power-up-call (now (ring .entry)) (now (fram .entry)) (powers-up pages slots (now (key .entry)) (now (nonce .entry)) (now (staging .entry)) (now (state .entry))) (now (job .entry)) (now («secret_len» .entry)) ⌝ }
+{
+    if job.len() != JOB_LENGTH {
+        let check = power_up_check(pages, slots, ring, fram, key, nonce, staging, state);
+        return answer(check.stop_if(true, Stop::BadJob));
+    }
+    let powered = power_up(pages, slots, ring, fram, key, nonce, staging, state);
+    let start = powered.start;
+    *secret_len = length_after(start, powered.length, *secret_len);
+    put_started(start, powered.job, job)
+}
