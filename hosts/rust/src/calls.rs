@@ -6,7 +6,7 @@
 //!
 //! # Why the unsafe code here is sound
 //!
-//! The header asks two things of its callers. Each pointer is good for as many bytes as the length behind it: every
+//! The calls ask two things of their callers. Each pointer is good for as many bytes as the length behind it: every
 //! pair here is a slice's own. And what is written overlaps nothing else that is lent: a `&mut` slice is the only way
 //! to its bytes while the call runs. An empty slice's pointer is never read. Numbers are written through `&mut`
 //! references. The calls keep no pointer, and each is proved to end, for all numbers and lengths, without reading or

@@ -6,9 +6,6 @@ use crate::unit::{Left, Setup, Unit};
 const LEFT: [Left; 7] =
     [Left::Nothing, Left::Whole, Left::Every(0), Left::Every(1), Left::Every(0xFF), Left::Any(11), Left::Records(12)];
 
-/// So few after the second cut.
-const LEFT_AGAIN: [Left; 4] = [Left::Nothing, Left::Whole, Left::Any(13), Left::Records(14)];
-
 #[derive(Clone, Copy, Debug)]
 enum Start {
     FirstSave,
@@ -27,7 +24,7 @@ impl Start {
 }
 
 /// The unit after every cut of a job that is out: between two stores, and into each with each leftover.
-fn after_every_cut(unit: &Unit, left: &[Left]) -> Result<Vec<(String, Unit)>, String> {
+fn after_every_cut(unit: &Unit) -> Result<Vec<(String, Unit)>, String> {
     let mut cut = Vec::new();
     let mut running = unit.clone();
     for made in 0.. {
@@ -37,9 +34,9 @@ fn after_every_cut(unit: &Unit, left: &[Left]) -> Result<Vec<(String, Unit)>, St
         if running.book.to_come().is_empty() {
             break;
         }
-        for left in left {
+        for left in LEFT {
             let mut into = running.clone();
-            into.cut_into(*left)?;
+            into.cut_into(left)?;
             cut.push((format!("into store {}, leaving {left:?}", made + 1), into));
         }
         running.advance()?;
@@ -50,12 +47,12 @@ fn after_every_cut(unit: &Unit, left: &[Left]) -> Result<Vec<(String, Unit)>, St
 fn every_cut_of(unit: &Unit, start: Start) -> Result<(), String> {
     let mut started = unit.clone();
     start.on(&mut started)?;
-    for (first, unit) in after_every_cut(&started, &LEFT)? {
+    for (first, unit) in after_every_cut(&started)? {
         let here = |words: String| format!("{start:?} cut {first}: {words}");
         unit.trial().map_err(here)?;
         let mut again = unit.clone();
         again.power_up().map_err(here)?;
-        for (second, unit) in after_every_cut(&again, &LEFT_AGAIN).map_err(here)? {
+        for (second, unit) in after_every_cut(&again).map_err(here)? {
             unit.trial().map_err(|words| here(format!("power-up cut {second}: {words}")))?;
         }
     }

@@ -8,7 +8,7 @@ use crate::random::Random;
 use crate::unit::{Left, Setup};
 use std::env;
 
-const HISTORIES: u64 = 400;
+const HISTORIES: u64 = 1000;
 
 #[test]
 fn histories() {
