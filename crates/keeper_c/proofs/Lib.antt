@@ -2,5 +2,6 @@
 mod AdvanceLaws
 mod BytesLaws
 mod LookLaws
+pub mod ReadBack
 mod SealLaws
 mod StartLaws
