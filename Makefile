@@ -1,10 +1,19 @@
-# make test   every proof, every must-fail edit and every program; the last line is 'N passed, 0 failed'
+# make test   every proof, every must-fail edit, every program, and the tests in C and Rust; the last line is 'N passed, 0 failed'
 # make demo   the life of a unit
+# make hosts  the tests in C and Rust alone
 
-.PHONY: test demo kit
+SHELL := /bin/bash
+.PHONY: test demo hosts kit
 
+# rt ci goes first, for it removes target/ and leaves there what the archive for C and Rust is made of. Its last line is
+# held back until the tests in C and Rust have passed too.
 test: kit
-	@rt ci
+	@log=$$(mktemp); trap 'rm -f "$$log"' EXIT; set -o pipefail; \
+	rt ci | tee "$$log" | sed -u '$$d' || { tail -n 1 "$$log"; exit 1; }; \
+	hosts/test && tail -n 1 "$$log"
+
+hosts: kit
+	@hosts/test
 
 demo: kit
 	@rt check keeper_values > /dev/null

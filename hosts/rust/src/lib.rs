@@ -1,0 +1,289 @@
+//! The checkpoint keeper of a baby monitor's parent unit. It seals a unit's state by AES-256-GCM, stores it one store at
+//! a time in two lent memory images, and finds it after a restart.
+//!
+//! The two images are the caller's:
+//!
+//! - the **nonce ring** in flash: 3 to 32 pages of 2 to 512 slots ([`Sizes`]), 16 bytes a slot, 0xFF where blank. Its
+//!   newest record has the newest checkpoint's nonce and says in which half of the FRAM it stands;
+//! - the **FRAM**: a multiple of 8 bytes, from 88 to 131,072, cut into two halves. A checkpoint is 44 bytes plus an open
+//!   part and a secret part of up to 4,096 bytes each, and must fit a half.
+//!
+//! A start ([`first_save`], [`save`] or [`power_up`]) seals a checkpoint into a staging buffer, at least one half long,
+//! and answers a [`Job`]; each [`advance`] then makes one store: a page erased, a word of 4 bytes, or a record. The last
+//! one says 'saved' or 'restored' and hands out the [`Session`] that the next save needs. Wherever the power fails, a
+//! power-up resumes the newest complete checkpoint and no other. A [`Stop`] says why a call was refused; then no buffer
+//! has changed.
+//!
+//! What the keeper asks of a unit: one key and one set of sizes for its life, a nonce never used twice, one job at a
+//! time, advanced with the staging buffer as its start left it, and nobody else writing to the memories.
+//!
+//! The code behind these calls is proved. This crate hands slices on as they are, and has no checks of its own.
+//!
+//! # A unit that saves, is restarted and resumes
+//!
+//! ```
+//! use godwitshelf::*;
+//!
+//! /// Advances a job to its end.
+//! fn finish(sizes: Sizes, ring: &mut [u8], fram: &mut [u8], staging: &[u8], mut job: Job) -> Result<Session, Stop> {
+//!     loop {
+//!         match advance(sizes, ring, fram, staging, &mut job)? {
+//!             Progress::GoingOn => continue,
+//!             Progress::Saved(session) | Progress::Restored(session) => return Ok(session),
+//!         }
+//!     }
+//! }
+//!
+//! # fn main() -> Result<(), Stop> {
+//! let sizes = Sizes { pages: 3, slots: 2 };
+//! let mut ring = [0xFF; 16 * 3 * 2];
+//! let mut fram = [0; 256];
+//! let mut staging = [0; 128];
+//! // On a unit the key is the device's, and the random generator makes each nonce and the starting tag.
+//! let key = [7; 32];
+//!
+//! let job = first_save(sizes, &ring, &fram, &key, &[1; 12], &[9; 16], b"volume 3", b"timer 00", &mut staging)?;
+//! let session = finish(sizes, &mut ring, &mut fram, &staging, job)?;
+//! let job = save(sizes, &ring, &fram, &key, &[2; 12], &session, b"volume 4", b"timer 09", &mut staging)?;
+//! finish(sizes, &mut ring, &mut fram, &staging, job)?;
+//!
+//! // The supply dips: only ring and FRAM are left.
+//! let mut state = [0; 4096];
+//! let up = power_up(sizes, &ring, &fram, &key, &[3; 12], &mut staging, &mut state)?;
+//! let secret_len = up.secret_len;
+//! let session = finish(sizes, &mut ring, &mut fram, &staging, up.job)?;
+//! assert_eq!(&state[..secret_len], b"timer 09");
+//! let seen = look(sizes, &ring, &fram, &key)?;
+//! assert_eq!((seen.restarts, seen.open_part), (1, &b"volume 4"[..]));
+//!
+//! // The next save starts from the session that the power-up handed out.
+//! save(sizes, &ring, &fram, &key, &[4; 12], &session, b"volume 4", b"timer 10", &mut staging)?;
+//! # Ok(())
+//! # }
+//! ```
+
+#![deny(missing_docs)]
+#![deny(unsafe_code)]
+
+// Laid out by hand: a pointer and its length side by side.
+#[rustfmt::skip]
+#[allow(unsafe_code)]
+pub mod calls;
+mod stop;
+
+pub use stop::Stop;
+
+/// The ring's sizes: 3 to 32 pages of 2 to 512 slots. The ring image is 16 × pages × slots bytes.
+#[derive(Clone, Copy, Debug, PartialEq, Eq)]
+pub struct Sizes {
+    /// How many pages the ring has.
+    pub pages: usize,
+    /// How many slots a page has.
+    pub slots: usize,
+}
+
+/// What a start leaves to do: its phase, half, length, target, nonce and its checkpoint's own tag.
+///
+/// It can be kept as bytes. Advance the job that was handed out last, and no copy of an earlier one: the unit has one
+/// job at a time.
+#[derive(Clone, Debug, PartialEq, Eq)]
+pub struct Job([u8; calls::JOB]);
+
+impl Job {
+    /// The job kept as these bytes. [`advance`] refuses bytes that are no job by [`Stop::BadJob`].
+    pub fn from_bytes(bytes: [u8; calls::JOB]) -> Job {
+        Job(bytes)
+    }
+
+    /// The job as bytes.
+    pub fn as_bytes(&self) -> &[u8; calls::JOB] {
+        &self.0
+    }
+}
+
+/// The newest checkpoint's page, slot, record and tag, from which the next save starts.
+///
+/// It can be kept as bytes, and serves until a newer record exists.
+#[derive(Clone, Copy, Debug, PartialEq, Eq)]
+pub struct Session([u8; calls::SESSION]);
+
+impl Session {
+    /// The session kept as these bytes. [`save`] refuses one that is not the newest record's by
+    /// [`Stop::StaleSession`].
+    pub fn from_bytes(bytes: [u8; calls::SESSION]) -> Session {
+        Session(bytes)
+    }
+
+    /// The session as bytes.
+    pub fn as_bytes(&self) -> &[u8; calls::SESSION] {
+        &self.0
+    }
+}
+
+/// What a power-up answers.
+#[derive(Clone, Debug, PartialEq, Eq)]
+pub struct PoweredUp {
+    /// What is left to do. The state may be used once [`Progress::Restored`] is answered.
+    pub job: Job,
+    /// How many bytes at the front of the state buffer are the secret part.
+    pub secret_len: usize,
+}
+
+/// What look answers.
+#[derive(Clone, Copy, Debug, PartialEq, Eq)]
+pub struct Looked<'a> {
+    /// Power-ups recorded since the last save, 0 to 8.
+    pub restarts: u32,
+    /// The open part itself, as that stretch of the FRAM image.
+    pub open_part: &'a [u8],
+}
+
+/// What an advance answers.
+#[derive(Clone, Copy, Debug, PartialEq, Eq)]
+pub enum Progress {
+    /// The store was made, and there are more to make.
+    GoingOn,
+    /// The last store of a save was made.
+    Saved(Session),
+    /// The last store of a power-up was made.
+    Restored(Session),
+}
+
+/// Seals `text` of up to 65,536 bytes, with up to 65,536 bytes of associated data, into the front of `out` and answers
+/// the tag. The rest of `out` keeps its contents.
+///
+/// # Errors
+///
+/// [`Stop::KeyNonceTagSize`], [`Stop::BufferSize`].
+pub fn seal(key: &[u8], nonce: &[u8], aad: &[u8], text: &[u8], out: &mut [u8]) -> Result<[u8; 16], Stop> {
+    let mut tag = [0; 16];
+    done(calls::seal(key, nonce, aad, text, out, &mut tag))?;
+    Ok(tag)
+}
+
+/// Opens `cipher` into the front of `out`, if `tag` is the standard's for associated data, text, nonce and key. The
+/// rest of `out` keeps its contents.
+///
+/// # Errors
+///
+/// [`Stop::KeyNonceTagSize`], [`Stop::BufferSize`], [`Stop::TagDiffers`].
+pub fn open(key: &[u8], nonce: &[u8], aad: &[u8], cipher: &[u8], tag: &[u8], out: &mut [u8]) -> Result<(), Stop> {
+    done(calls::open(key, nonce, aad, cipher, tag, out))
+}
+
+/// Starts the first save, on a blank ring: restarts 0, half A, page 0, slot 0. The starting tag is 16 random bytes.
+///
+/// # Errors
+///
+/// [`Stop::RingSize`], [`Stop::FramSize`], [`Stop::KeyNonceTagSize`], [`Stop::BufferSize`], [`Stop::RingInUse`].
+#[allow(clippy::too_many_arguments)]
+pub fn first_save(
+    sizes: Sizes,
+    ring: &[u8],
+    fram: &[u8],
+    key: &[u8],
+    nonce: &[u8],
+    starting_tag: &[u8],
+    open_part: &[u8],
+    secret: &[u8],
+    staging: &mut [u8],
+) -> Result<Job, Stop> {
+    let mut job = [0; calls::JOB];
+    done(calls::first_save(sizes, ring, fram, key, nonce, starting_tag, open_part, secret, staging, &mut job))?;
+    Ok(Job(job))
+}
+
+/// Starts a save: restarts 0, the half that the newest record does not name, the next target, the previous tag from the
+/// session.
+///
+/// # Errors
+///
+/// [`Stop::RingSize`], [`Stop::FramSize`], [`Stop::KeyNonceTagSize`], [`Stop::BufferSize`], [`Stop::RingBlank`],
+/// [`Stop::RingUnreadable`], [`Stop::StaleSession`], [`Stop::PagePending`], [`Stop::NonceUsed`].
+#[allow(clippy::too_many_arguments)]
+pub fn save(
+    sizes: Sizes,
+    ring: &[u8],
+    fram: &[u8],
+    key: &[u8],
+    nonce: &[u8],
+    session: &Session,
+    open_part: &[u8],
+    secret: &[u8],
+    staging: &mut [u8],
+) -> Result<Job, Stop> {
+    let mut job = [0; calls::JOB];
+    done(calls::save(sizes, ring, fram, key, nonce, &session.0, open_part, secret, staging, &mut job))?;
+    Ok(Job(job))
+}
+
+/// Opens the newest checkpoint, puts its secret part at the front of the state buffer (at least 4,096 bytes) and starts
+/// a new checkpoint of both parts under the new nonce, with one restart more.
+///
+/// # Errors
+///
+/// [`Stop::RingSize`], [`Stop::FramSize`], [`Stop::KeyNonceTagSize`], [`Stop::BufferSize`], [`Stop::RingBlank`],
+/// [`Stop::RingUnreadable`], [`Stop::NonceUsed`], [`Stop::BadHead`], [`Stop::TagDiffers`], [`Stop::RestartLimit`].
+pub fn power_up(
+    sizes: Sizes,
+    ring: &[u8],
+    fram: &[u8],
+    key: &[u8],
+    nonce: &[u8],
+    staging: &mut [u8],
+    state: &mut [u8],
+) -> Result<PoweredUp, Stop> {
+    let mut job = [0; calls::JOB];
+    let mut secret_len = 0;
+    done(calls::power_up(sizes, ring, fram, key, nonce, staging, state, &mut job, &mut secret_len))?;
+    Ok(PoweredUp { job: Job(job), secret_len })
+}
+
+/// Looks at the newest checkpoint and stores nothing.
+///
+/// # Errors
+///
+/// [`Stop::RingSize`], [`Stop::FramSize`], [`Stop::KeyNonceTagSize`], [`Stop::RingBlank`], [`Stop::RingUnreadable`],
+/// [`Stop::BadHead`], [`Stop::TagDiffers`].
+pub fn look<'a>(sizes: Sizes, ring: &[u8], fram: &'a [u8], key: &[u8]) -> Result<Looked<'a>, Stop> {
+    let (mut restarts, mut start, mut len) = (0, 0, 0);
+    done(calls::look(sizes, ring, fram, key, &mut restarts, &mut start, &mut len))?;
+    Ok(Looked { restarts, open_part: &fram[start..start + len] })
+}
+
+/// Makes the one store that the job's phase names, and moves the job on.
+///
+/// # Errors
+///
+/// [`Stop::RingSize`], [`Stop::FramSize`], [`Stop::BufferSize`] (staging shorter than a half), [`Stop::BadJob`].
+pub fn advance(
+    sizes: Sizes,
+    ring: &mut [u8],
+    fram: &mut [u8],
+    staging: &[u8],
+    job: &mut Job,
+) -> Result<Progress, Stop> {
+    let mut session = [0; calls::SESSION];
+    match calls::advance(sizes, ring, fram, staging, &mut job.0, &mut session) {
+        calls::GOING_ON => Ok(Progress::GoingOn),
+        calls::SAVED => Ok(Progress::Saved(Session(session))),
+        calls::RESTORED => Ok(Progress::Restored(Session(session))),
+        number => Err(stop(number)),
+    }
+}
+
+/// Zeroes a buffer of any length.
+pub fn wipe(buffer: &mut [u8]) {
+    calls::wipe(buffer);
+}
+
+fn done(answer: u32) -> Result<(), Stop> {
+    match answer {
+        calls::DONE => Ok(()),
+        number => Err(stop(number)),
+    }
+}
+
+fn stop(number: u32) -> Stop {
+    Stop::from_number(number).expect("the calls answer no other number")
+}

@@ -1,0 +1,120 @@
+use std::error::Error;
+use std::fmt;
+
+/// Why a call stopped. The conditions are tried in the order of their numbers, those that name the call only; the
+/// first that applies is answered, and no buffer changes.
+#[derive(Clone, Copy, Debug, PartialEq, Eq, Hash, PartialOrd, Ord)]
+#[repr(u32)]
+pub enum Stop {
+    /// 1: pages, slots or the ring's length wrong.
+    RingSize = 1,
+    /// 2: the FRAM's length wrong.
+    FramSize,
+    /// 3: key not 32, nonce not 12 or tag not 16 bytes.
+    KeyNonceTagSize,
+    /// 4: a part not a multiple of 4 bytes, above 4,096, or the checkpoint longer than a half; staging, state or output
+    /// too short; text or associated data above 65,536 bytes.
+    BufferSize,
+    /// 5: the ring is not blank.
+    RingInUse,
+    /// 6: the ring is wholly blank.
+    RingBlank,
+    /// 7: the ring is not readable.
+    RingUnreadable,
+    /// 8: the session's page, slot or record is not the newest.
+    StaleSession,
+    /// 9: a page is pending.
+    PagePending,
+    /// 10: the nonce equals one in a record of the newest page.
+    NonceUsed,
+    /// 11: a head word's kind or value wrong, or the checkpoint longer than the half.
+    BadHead,
+    /// 12: the tag differs.
+    TagDiffers,
+    /// 13: restarts are 8.
+    RestartLimit,
+    /// 14: the job is done; its length is not a multiple of 4, below 44 or above the half; its page, slot, half or word
+    /// is out of its range; or at a record the target is not blank.
+    BadJob,
+}
+
+impl Stop {
+    /// Every stop, in the order in which they are tried.
+    pub const ALL: [Stop; 14] = [
+        Stop::RingSize,
+        Stop::FramSize,
+        Stop::KeyNonceTagSize,
+        Stop::BufferSize,
+        Stop::RingInUse,
+        Stop::RingBlank,
+        Stop::RingUnreadable,
+        Stop::StaleSession,
+        Stop::PagePending,
+        Stop::NonceUsed,
+        Stop::BadHead,
+        Stop::TagDiffers,
+        Stop::RestartLimit,
+        Stop::BadJob,
+    ];
+
+    /// The stop's number, 1 to 14.
+    pub const fn number(self) -> u32 {
+        self as u32
+    }
+
+    /// The stop with this number, if there is one.
+    pub fn from_number(number: u32) -> Option<Stop> {
+        Stop::ALL.into_iter().find(|stop| stop.number() == number)
+    }
+
+    fn words(self) -> &'static str {
+        match self {
+            Stop::RingSize => "pages, slots or ring length wrong",
+            Stop::FramSize => "FRAM length wrong",
+            Stop::KeyNonceTagSize => "key not 32, nonce not 12 or tag not 16 bytes",
+            Stop::BufferSize => {
+                "a part not a multiple of 4 bytes, above 4,096, or the checkpoint longer than a half; \
+                 staging, state or output too short; text or associated data above 65,536"
+            }
+            Stop::RingInUse => "ring not blank",
+            Stop::RingBlank => "ring wholly blank",
+            Stop::RingUnreadable => "ring not readable",
+            Stop::StaleSession => "session's page, slot or record is not the newest",
+            Stop::PagePending => "a page is pending",
+            Stop::NonceUsed => "nonce equals one in a record of the newest page",
+            Stop::BadHead => "a head word's kind or value wrong, or the checkpoint longer than the half",
+            Stop::TagDiffers => "tag differs",
+            Stop::RestartLimit => "restarts are 8",
+            Stop::BadJob => {
+                "job done; length not a multiple of 4, below 44 or above the half; \
+                 page, slot, half or word out of its range; or at a record the target is not blank"
+            }
+        }
+    }
+}
+
+impl fmt::Display for Stop {
+    fn fmt(&self, f: &mut fmt::Formatter<'_>) -> fmt::Result {
+        write!(f, "stop {}: {}", self.number(), self.words())
+    }
+}
+
+impl Error for Stop {}
+
+#[cfg(test)]
+mod tests {
+    use super::*;
+
+    #[test]
+    fn numbers_are_1_to_14_and_lead_back() {
+        for number in 0..20 {
+            let stop = Stop::from_number(number);
+            assert_eq!(stop.map(Stop::number), (1..=14).contains(&number).then_some(number));
+        }
+    }
+
+    #[test]
+    fn a_stop_is_shown_with_its_number_and_words() {
+        assert_eq!(Stop::TagDiffers.to_string(), "stop 12: tag differs");
+    }
+}

@@ -1,0 +1,89 @@
+//! Sealed checkpoints, byte for byte, as they stand in staging after each start and in the FRAM after the last store.
+
+use crate::layout::{half_of, tag_of, Checkpoint};
+use crate::random::Random;
+use godwitshelf::*;
+
+const SIZES: Sizes = Sizes { pages: 3, slots: 2 };
+
+fn checked(staging: &[u8], before: &[u8], key: &[u8], checkpoint: &Checkpoint) -> Vec<u8> {
+    let sealed = checkpoint.sealed(key);
+    let (open, secret) = (checkpoint.open_part.len(), checkpoint.secret.len());
+    assert!(staging[..sealed.len()] == sealed, "open {open}, secret {secret}, restarts {}", checkpoint.restarts);
+    assert!(staging[sealed.len()..] == before[sealed.len()..], "rest of staging: open {open}, secret {secret}");
+    sealed
+}
+
+fn finished(ring: &mut [u8], fram: &mut [u8], staging: &[u8], mut job: Job) -> Session {
+    loop {
+        match advance(SIZES, ring, fram, staging, &mut job).unwrap() {
+            Progress::GoingOn => (),
+            Progress::Saved(session) | Progress::Restored(session) => return session,
+        }
+    }
+}
+
+/// A first save, a save and a power-up: half A, half B, half A.
+fn three_checkpoints(random: &mut Random, open: usize, secret: usize, spare: usize) {
+    let half = (44 + open + secret + 4 * spare).div_ceil(4) * 4;
+    let mut ring = vec![0xFF; 16 * 6];
+    let mut fram = random.bytes(2 * half);
+    let key = random.bytes(32);
+    let before = random.bytes(half + spare);
+    let nonces: [[u8; 12]; 3] = std::array::from_fn(|_| random.bytes(12).try_into().unwrap());
+
+    let starting_tag: [u8; 16] = random.bytes(16).try_into().unwrap();
+    let (open_part, secret_part) = (random.bytes(open), random.bytes(secret));
+    let mut staging = before.clone();
+    let job = first_save(SIZES, &ring, &fram, &key, &nonces[0], &starting_tag, &open_part, &secret_part, &mut staging)
+        .unwrap();
+    let first =
+        Checkpoint { open_part, secret: secret_part, restarts: 0, previous_tag: starting_tag, nonce: nonces[0] };
+    let sealed = checked(&staging, &before, &key, &first);
+    let session = finished(&mut ring, &mut fram, &staging, job);
+    assert!(half_of(&fram, 0)[..sealed.len()] == sealed);
+
+    let (open_part, secret_part) = (random.bytes(open), random.bytes(secret));
+    let mut staging = before.clone();
+    let job = save(SIZES, &ring, &fram, &key, &nonces[1], &session, &open_part, &secret_part, &mut staging).unwrap();
+    let second =
+        Checkpoint { open_part, secret: secret_part, restarts: 0, previous_tag: tag_of(&sealed), nonce: nonces[1] };
+    let sealed = checked(&staging, &before, &key, &second);
+    finished(&mut ring, &mut fram, &staging, job);
+    assert!(half_of(&fram, 1)[..sealed.len()] == sealed);
+
+    let mut staging = before.clone();
+    let mut state = vec![0x5A; 4096 + spare];
+    let up = power_up(SIZES, &ring, &fram, &key, &nonces[2], &mut staging, &mut state).unwrap();
+    let third = Checkpoint { restarts: 1, previous_tag: tag_of(&sealed), nonce: nonces[2], ..second };
+    let sealed = checked(&staging, &before, &key, &third);
+    assert_eq!(up.secret_len, secret);
+    assert!(state[..secret] == third.secret && state[secret..].iter().all(|byte| *byte == 0x5A));
+    finished(&mut ring, &mut fram, &staging, up.job);
+    assert!(half_of(&fram, 0)[..sealed.len()] == sealed);
+}
+
+#[test]
+fn small_parts_of_every_size() {
+    let mut random = Random::new(5);
+    for open in 0..=24 {
+        for secret in 0..=24 {
+            three_checkpoints(&mut random, 4 * open, 4 * secret, (open + secret) % 3);
+        }
+    }
+}
+
+#[test]
+fn parts_to_4096() {
+    let mut random = Random::new(6);
+    let limits = [0, 4, 2048, 4092, 4096];
+    for open in limits {
+        for secret in limits {
+            three_checkpoints(&mut random, open, secret, 0);
+        }
+    }
+    for _ in 0..100 {
+        let (open, secret, spare) = (4 * random.below(1025), 4 * random.below(1025), random.below(50));
+        three_checkpoints(&mut random, open, secret, spare);
+    }
+}

@@ -1,0 +1,72 @@
+//! A call made by the keeper and by document 01, on the same bytes.
+
+use crate::operations::{perform, Lent, Operation};
+use godwitshelf::{calls, Sizes};
+use std::cell::RefCell;
+use std::collections::BTreeMap;
+
+thread_local! {
+    /// How often each call gave each answer, in this thread's test.
+    pub static ANSWERS: RefCell<BTreeMap<(Operation, u32), usize>> = const { RefCell::new(BTreeMap::new()) };
+}
+
+/// The keeper's own call.
+fn keeper(operation: Operation, c: &mut Lent) -> u32 {
+    let sizes = Sizes { pages: c.pages, slots: c.slots };
+    #[rustfmt::skip]
+    let answer = match operation {
+        Operation::FirstSave => calls::first_save(sizes, &c.ring, &c.fram, &c.key, &c.nonce, &c.starting_tag,
+            &c.open_part, &c.secret, &mut c.staging, &mut c.job),
+        Operation::Save => calls::save(sizes, &c.ring, &c.fram, &c.key, &c.nonce, &c.session,
+            &c.open_part, &c.secret, &mut c.staging, &mut c.job),
+        Operation::PowerUp => calls::power_up(sizes, &c.ring, &c.fram, &c.key, &c.nonce,
+            &mut c.staging, &mut c.state, &mut c.job, &mut c.secret_len),
+        Operation::Look => calls::look(sizes, &c.ring, &c.fram, &c.key,
+            &mut c.restarts, &mut c.open_start, &mut c.open_len),
+        Operation::Advance => calls::advance(sizes, &mut c.ring, &mut c.fram, &c.staging, &mut c.job, &mut c.session),
+    };
+    answer
+}
+
+/// Makes the call on `lent`. An error says where the answer, a lent byte or a number behind a pointer differs from
+/// document 01; nothing may change on a stop, and what is lent for reading never.
+pub fn call(operation: Operation, lent: &mut Lent) -> Result<u32, String> {
+    let mut expected = lent.clone();
+    let expected_answer = perform(operation, &mut expected);
+    let answer = keeper(operation, lent);
+    if answer != expected_answer {
+        return Err(format!("{operation:?} answers {answer}, not {expected_answer}"));
+    }
+    if *lent != expected {
+        return Err(format!("{operation:?} answers {answer}, but {}", difference(lent, &expected)));
+    }
+    ANSWERS.with_borrow_mut(|answers| *answers.entry((operation, answer)).or_default() += 1);
+    Ok(answer)
+}
+
+/// The first difference, in words.
+fn difference(found: &Lent, expected: &Lent) -> String {
+    let buffers = [
+        ("ring", &found.ring, &expected.ring),
+        ("FRAM", &found.fram, &expected.fram),
+        ("key", &found.key, &expected.key),
+        ("nonce", &found.nonce, &expected.nonce),
+        ("starting tag", &found.starting_tag, &expected.starting_tag),
+        ("session", &found.session, &expected.session),
+        ("open part", &found.open_part, &expected.open_part),
+        ("secret part", &found.secret, &expected.secret),
+        ("staging", &found.staging, &expected.staging),
+        ("state", &found.state, &expected.state),
+        ("job", &found.job, &expected.job),
+    ];
+    for (name, found, expected) in buffers {
+        if let Some(at) = (0..found.len()).find(|at| found[*at] != expected[*at]) {
+            return format!("byte {at} of the {name} is {:#04x}, not {:#04x}", found[at], expected[at]);
+        }
+    }
+    format!(
+        "secret length, restarts and open part's start and length are {:?}, not {:?}",
+        (found.secret_len, found.restarts, found.open_start, found.open_len),
+        (expected.secret_len, expected.restarts, expected.open_start, expected.open_len)
+    )
+}

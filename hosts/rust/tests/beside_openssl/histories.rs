@@ -1,0 +1,338 @@
+//! Random histories under demand 3. `HISTORIES=n SEED=s cargo test histories` runs n of them from seed s on. One that
+//! fails is made smaller, event by event and number by number, and printed.
+
+use crate::compare::ANSWERS;
+use crate::history::{Event, History, Twist};
+use crate::operations::Operation;
+use crate::random::Random;
+use crate::unit::{Left, Setup};
+use std::env;
+
+const HISTORIES: u64 = 1000;
+
+#[test]
+fn histories() {
+    let number = |name: &str, otherwise: u64| match env::var(name) {
+        Ok(text) => text.parse().unwrap_or_else(|_| panic!("{name} is a number")),
+        Err(_) => otherwise,
+    };
+    let (first, count) = (number("SEED", 1), number("HISTORIES", HISTORIES));
+    for seed in first..first + count {
+        let history = generated(seed);
+        if let Err(failure) = history.run() {
+            let (history, (at, words)) = smaller(history, failure);
+            panic!("\nSEED={seed} HISTORIES=1 fails; the smallest history found that does:\n{history}at event {at}: {words}\n");
+        }
+    }
+    // With fewer histories some answer may not occur.
+    if count >= HISTORIES {
+        let answers: Vec<(Operation, u32)> = ANSWERS.with_borrow(|answers| answers.keys().copied().collect());
+        assert_eq!(answers, every_answer());
+    }
+}
+
+/// Every answer that document 01 has for each call, 14 for a job buffer of a wrong length included.
+fn every_answer() -> Vec<(Operation, u32)> {
+    let answers: [(Operation, &[u32]); 5] = [
+        (Operation::FirstSave, &[0, 1, 2, 3, 4, 5, 14]),
+        (Operation::Save, &[0, 1, 2, 3, 4, 6, 7, 8, 9, 10, 14]),
+        (Operation::PowerUp, &[0, 1, 2, 3, 4, 6, 7, 10, 11, 12, 13, 14]),
+        (Operation::Look, &[0, 1, 2, 3, 6, 7, 11, 12]),
+        (Operation::Advance, &[1, 2, 4, 14, 256, 257, 258]),
+    ];
+    answers.into_iter().flat_map(|(call, answers)| answers.iter().map(move |answer| (call, *answer))).collect()
+}
+
+// Making a history from a seed.
+
+fn generated(seed: u64) -> History {
+    let mut random = Random::new(seed);
+    let setup = match random.below(60) {
+        // Long checkpoints and memories of the largest size are slow, so they are few.
+        0 => Setup { pages: 32, slots: 512, fram: 88 + 8 * random.below(10), seed },
+        1 => Setup { pages: 3, slots: 2, fram: 2 * (44 + 4096 + 4096), seed },
+        2 => Setup { pages: 3, slots: 2, fram: 131_072, seed },
+        _ => Setup {
+            pages: random.pick(&[3, 3, 3, 4, 4, 5, 6, 8, 32]),
+            slots: random.pick(&[2, 2, 2, 3, 3, 4, 5, 8]),
+            fram: 88 + 8 * random.pick(&[0, 1, 2, 3, 5, 8, 13, 21]),
+            seed,
+        },
+    };
+    let large = setup.fram > 1000 || setup.slots > 100;
+    let count = if large { 12 } else { 10 + random.below(70) };
+    // How often a start is a save, of 100.
+    let saves = random.pick(&[3, 10, 40, 80]);
+    let mut events = Vec::new();
+    if random.chance(9, 10) {
+        let (open, secret) = part_sizes(&mut random, &setup);
+        events.push(Event::FirstSave { open, secret, fill: seed });
+        events.push(Event::AllBut(0));
+    }
+    while events.len() < count {
+        match random.below(100) {
+            0..40 => {
+                events.push(start(&mut random, &setup, saves));
+                events.push(Event::AllBut(0));
+            }
+            40..55 => {
+                events.push(start(&mut random, &setup, saves));
+                // Mostly near the end, where record and erase are.
+                let stores = random.below(4);
+                let times = random.below(setup.fram / 8 + 2);
+                events.push(if random.chance(2, 3) { Event::AllBut(stores) } else { Event::Advance(times) });
+                events.push(if random.chance(4, 5) { Event::CutInto(left(&mut random)) } else { Event::Cut });
+            }
+            55..60 => events.push(start(&mut random, &setup, saves)),
+            60..65 => events.push(Event::Advance(1 + random.below(8))),
+            65..68 => events.push(Event::Cut),
+            68..71 => events.push(Event::CutInto(left(&mut random))),
+            71..75 => events.push(Event::Look),
+            _ => events.extend((0..4).map(|_| wrong(&mut random, &setup))),
+        }
+    }
+    History { setup, events }
+}
+
+fn part_sizes(random: &mut Random, setup: &Setup) -> (usize, usize) {
+    let room = (setup.fram / 2 - 44) / 4;
+    let most = if setup.fram == 131_072 { 20 } else { room.min(1024) };
+    let open = random.below(most + 1);
+    let secret = random.below(most.min(room - open) + 1);
+    (4 * open, 4 * secret)
+}
+
+fn start(random: &mut Random, setup: &Setup, saves: usize) -> Event {
+    let (open, secret) = part_sizes(random, setup);
+    let fill = random.next();
+    if random.chance(1, 12) {
+        return Event::FirstSave { open, secret, fill };
+    }
+    if random.chance(saves, 100) {
+        let session_back = if random.chance(1, 6) { 1 + random.below(4) } else { 0 };
+        return Event::Save { session_back, open, secret, fill };
+    }
+    Event::PowerUp
+}
+
+fn left(random: &mut Random) -> Left {
+    let seed = random.next();
+    let every = [Left::Every(0), Left::Every(1), Left::Every(0xFF), Left::Torn(seed), Left::Any(seed)];
+    match random.below(10) {
+        0 => Left::Nothing,
+        1..4 => Left::Whole,
+        4..6 => Left::Records(seed),
+        _ => random.pick(&every),
+    }
+}
+
+fn wrong(random: &mut Random, setup: &Setup) -> Event {
+    let all = [Operation::FirstSave, Operation::Save, Operation::PowerUp, Operation::Look, Operation::Advance];
+    let operation = random.pick(&all);
+    let count = random.pick(&[1, 1, 1, 2, 2, 3, 4]);
+    let twists = (0..count).map(|_| twist(random, setup, operation)).collect();
+    Event::Wrong { operation, twists, fill: random.next() }
+}
+
+fn twist(random: &mut Random, setup: &Setup, operation: Operation) -> Twist {
+    let Setup { pages, slots, fram, .. } = *setup;
+    let (ring, half) = (16 * pages * slots, fram / 2);
+    let room = half - 44;
+    let seed = random.next();
+    let kind = random.below(4) as u32;
+    match (operation, random.below(12)) {
+        (Operation::Advance, 0..6) => match random.below(8) {
+            0 => Twist::JobLength(random.pick(&[0, 40, 55, 57, 64])),
+            1 => Twist::OldJob(random.below(20)),
+            2..5 => Twist::MadeUpJob(seed),
+            _ => {
+                let numbers = [
+                    pages - 1,
+                    pages,
+                    slots - 1,
+                    slots,
+                    half - 4,
+                    half,
+                    half + 4,
+                    half / 4 - 1,
+                    half / 4,
+                    40,
+                    44,
+                    45,
+                    46,
+                    48,
+                ];
+                let few = random.below(7) as u32;
+                let value = random.pick(&[few, few, random.clone().pick(&numbers) as u32, u32::MAX, 1 << 30, 1 << 31]);
+                Twist::JobWord(random.below(7), value)
+            }
+        },
+        (Operation::FirstSave, 0..8) => Twist::BlankRing,
+        (Operation::Save, 0..5) => match random.below(9) {
+            6 => Twist::PendingPage(random.pick(&[Left::Any(seed), Left::Records(seed)])),
+            7 | 8 => Twist::NewestSession,
+            0 => Twist::SessionLength(random.pick(&[0, 24, 39, 41, 56])),
+            1 => Twist::SessionBit(random.below(320)),
+            2 => {
+                Twist::SessionWord(random.below(2), random.pick(&[0, 1, pages as u32, slots as u32, u32::MAX, 1 << 31]))
+            }
+            3 => Twist::OtherUnitsSession(seed),
+            _ => Twist::OldSession(random.below(6)),
+        },
+        (Operation::Save | Operation::PowerUp, 5) => Twist::UsedNonce(random.below(slots + 1)),
+        (Operation::Look | Operation::PowerUp, 0..5) => match random.below(6) {
+            0 => Twist::HeadWord(
+                0,
+                random.pick(&[1, 1, kind]),
+                random.pick(&[0, room as u32 / 4, room as u32 / 4 + 1, 1024, 1025]),
+            ),
+            1 => Twist::HeadWord(
+                1,
+                random.pick(&[2, 2, kind]),
+                random.pick(&[0, room as u32 / 4, room as u32 / 4 + 1, 1024, 1025]),
+            ),
+            2 => Twist::HeadWord(2, random.pick(&[3, 3, kind]), random.pick(&[0, 1, 7, 8, 9, 1 << 29])),
+            3 => Twist::FramByte(random.below(fram), seed as u8),
+            _ => {
+                let (open, secret) = part_sizes(random, setup);
+                Twist::OtherCheckpoint { open, secret, restarts: random.pick(&[0, 1, 7, 8, 9]), fill: seed }
+            }
+        },
+        _ => any_twist(random, setup, ring, half, room, seed),
+    }
+}
+
+/// A twist that any call can be given.
+fn any_twist(random: &mut Random, setup: &Setup, ring: usize, half: usize, room: usize, seed: u64) -> Twist {
+    let Setup { pages, slots, fram, .. } = *setup;
+    let parts = [1, 2, 3, 5, room, room + 4, 4092, 4096, 4097, 4100, 8192];
+    match random.below(18) {
+        0 => Twist::Pages(random.pick(&[0, 1, 2, 3, 32, 33, pages - 1, pages + 1, usize::MAX, 1 << 60])),
+        1 => Twist::Slots(random.pick(&[0, 1, 2, 512, 513, slots - 1, slots + 1, usize::MAX, 1 << 60])),
+        2 => Twist::PagesForSlots,
+        3 => Twist::RingLength(random.pick(&[0, 1, ring - 16, ring - 1, ring + 1, ring + 16, 2 * ring])),
+        4 => Twist::FramLength(random.pick(&[
+            0,
+            4,
+            80,
+            84,
+            88,
+            fram - 8,
+            fram - 4,
+            fram + 1,
+            fram + 4,
+            fram + 8,
+            131_072,
+            131_080,
+        ])),
+        5 => Twist::KeyLength(random.pick(&[0, 16, 24, 31, 33, 64])),
+        6 => Twist::KeyBit(random.below(256)),
+        7 => Twist::NonceLength(random.pick(&[0, 8, 11, 13, 16])),
+        8 => Twist::StartingTagLength(random.pick(&[0, 12, 15, 17, 32])),
+        9 => Twist::OpenLength(random.pick(&parts)),
+        10 => Twist::SecretLength(random.pick(&parts)),
+        11 => Twist::StagingLength(random.pick(&[0, 1, half - 4, half - 1, half, half + 1])),
+        12 => Twist::StateLength(random.pick(&[0, 1, 4092, 4095, 4096, 4097])),
+        13 => Twist::JobLength(random.pick(&[0, 40, 55, 56, 57, 64])),
+        14 => Twist::SessionLength(random.pick(&[0, 39, 40, 41, 56])),
+        15 => Twist::RingByte(random.below(ring), random.pick(&[0, 1, 0x40, 0x80, 0xFE, 0xFF])),
+        16 => Twist::RingByte(
+            16 * random.below(ring / 16) + 12 + random.below(4),
+            random.pick(&[0, 1, 2, 0x40, 0x80, 0xFF]),
+        ),
+        _ => Twist::RingPage(random.below(pages), random.pick(&[Left::Whole, Left::Any(seed), Left::Records(seed)])),
+    }
+}
+
+// Making a failing history smaller.
+
+type Failure = (usize, String);
+
+fn smaller(mut history: History, mut failure: Failure) -> (History, Failure) {
+    loop {
+        history.events.truncate(failure.0);
+        let Some((found, why)) = candidates(&history).find_map(|h| h.run().err().map(|why| (h, why))) else {
+            return (history, failure);
+        };
+        (history, failure) = (found, why);
+    }
+}
+
+/// Histories that are smaller by one step: without a run of events, then with a smaller number in one place.
+fn candidates(history: &History) -> impl Iterator<Item = History> + '_ {
+    let n = history.events.len();
+    let lengths = std::iter::successors(Some(n.div_ceil(2)), |length| (*length > 1).then_some(length / 2));
+    let dropped = lengths.flat_map(move |length| {
+        (0..n).step_by(length).map(move |at| {
+            let mut less = history.clone();
+            less.events.drain(at..n.min(at + length));
+            less
+        })
+    });
+    let simpler = (0..n).flat_map(move |i| {
+        simpler_events(&history.events[i]).into_iter().map(move |event| {
+            let mut less = history.clone();
+            less.events[i] = event;
+            less
+        })
+    });
+    dropped.chain(simpler).chain(
+        simpler_setups(&history.setup).into_iter().map(move |setup| History { setup, events: history.events.clone() }),
+    )
+}
+
+fn simpler_events(event: &Event) -> Vec<Event> {
+    let sizes = |open: usize, secret: usize| {
+        let mut less = vec![];
+        if open > 0 {
+            less.extend([(0, secret), (open / 8 * 4, secret), (open - 4, secret)]);
+        }
+        if secret > 0 {
+            less.extend([(open, 0), (open, secret / 8 * 4), (open, secret - 4)]);
+        }
+        less
+    };
+    match event.clone() {
+        Event::FirstSave { open, secret, fill } => {
+            sizes(open, secret).into_iter().map(|(open, secret)| Event::FirstSave { open, secret, fill }).collect()
+        }
+        Event::Save { session_back, open, secret, fill } => {
+            let mut less: Vec<Event> = sizes(open, secret)
+                .into_iter()
+                .map(|(open, secret)| Event::Save { session_back, open, secret, fill })
+                .collect();
+            if session_back > 0 {
+                less.push(Event::Save { session_back: session_back - 1, open, secret, fill });
+            }
+            less
+        }
+        Event::AllBut(left) if left > 0 => vec![Event::AllBut(0), Event::AllBut(left - 1)],
+        Event::Advance(times) if times > 1 => vec![Event::Advance(times / 2), Event::Advance(times - 1)],
+        Event::CutInto(left) if !matches!(left, Left::Nothing | Left::Whole | Left::Every(_)) => {
+            [Left::Nothing, Left::Whole, Left::Every(0)].map(Event::CutInto).to_vec()
+        }
+        Event::Wrong { operation, twists, fill } if twists.len() > 1 => (0..twists.len())
+            .map(|i| {
+                let mut fewer = twists.clone();
+                fewer.remove(i);
+                Event::Wrong { operation, twists: fewer, fill }
+            })
+            .collect(),
+        _ => vec![],
+    }
+}
+
+/// Smaller memories; a part that no longer fits is refused, which the history may bear.
+fn simpler_setups(setup: &Setup) -> Vec<Setup> {
+    let mut less = vec![];
+    if setup.pages > 3 {
+        less.extend([Setup { pages: 3, ..setup.clone() }, Setup { pages: setup.pages - 1, ..setup.clone() }]);
+    }
+    if setup.slots > 2 {
+        less.extend([Setup { slots: 2, ..setup.clone() }, Setup { slots: setup.slots - 1, ..setup.clone() }]);
+    }
+    if setup.fram > 88 {
+        less.extend([Setup { fram: 88, ..setup.clone() }, Setup { fram: setup.fram - 8, ..setup.clone() }]);
+    }
+    less
+}

@@ -1,0 +1,344 @@
+//! Histories: what happens to a unit, event by event, and calls with something wrong among them.
+
+use crate::compare::call;
+use crate::layout::{half_of, read_ring, record, word, Checkpoint, Newest, Reading};
+use crate::operations::*;
+use crate::random::Random;
+use crate::unit::{stopped, Left, Setup, Unit};
+use std::fmt;
+
+#[derive(Clone)]
+pub struct History {
+    pub setup: Setup,
+    pub events: Vec<Event>,
+}
+
+#[derive(Clone, Debug)]
+pub enum Event {
+    FirstSave {
+        open: usize,
+        secret: usize,
+        fill: u64,
+    },
+    /// With the session handed out last, or `session_back` before it.
+    Save {
+        session_back: usize,
+        open: usize,
+        secret: usize,
+        fill: u64,
+    },
+    PowerUp,
+    /// So many advances, or fewer where the job is done before.
+    Advance(usize),
+    /// Advances until so many stores are left.
+    AllBut(usize),
+    Look,
+    Cut,
+    CutInto(Left),
+    /// A call with something wrong, on copies. A stop leaves everything, so the list goes on from the same bytes; where
+    /// document 01 has no stop for it the copies are dropped, for the list may not have such a call.
+    Wrong {
+        operation: Operation,
+        twists: Vec<Twist>,
+        fill: u64,
+    },
+}
+
+/// What is wrong about a call.
+#[derive(Clone, Copy, Debug, PartialEq)]
+pub enum Twist {
+    Pages(usize),
+    Slots(usize),
+    PagesForSlots,
+    RingLength(usize),
+    FramLength(usize),
+    KeyLength(usize),
+    KeyBit(usize),
+    NonceLength(usize),
+    UsedNonce(usize),
+    StartingTagLength(usize),
+    OpenLength(usize),
+    SecretLength(usize),
+    StagingLength(usize),
+    StateLength(usize),
+    JobLength(usize),
+    JobWord(usize, u32),
+    OldJob(usize),
+    MadeUpJob(u64),
+    SessionLength(usize),
+    SessionBit(usize),
+    SessionWord(usize, u32),
+    OldSession(usize),
+    OtherUnitsSession(u64),
+    /// As one for the newest record would be that was never handed out.
+    NewestSession,
+    BlankRing,
+    /// Something in the page before the newest.
+    PendingPage(Left),
+    RingByte(usize, u8),
+    RingPage(usize, Left),
+    FramByte(usize, u8),
+    HeadWord(usize, u32, u32),
+    /// Another checkpoint, rightly sealed, in the newest record's half.
+    OtherCheckpoint {
+        open: usize,
+        secret: usize,
+        restarts: u32,
+        fill: u64,
+    },
+}
+
+fn parts(open: usize, secret: usize, fill: u64) -> (Vec<u8>, Vec<u8>) {
+    let mut random = Random::new(fill);
+    (random.bytes(open), random.bytes(secret))
+}
+
+impl History {
+    /// Runs the events. After each, and after each single advance, a power-up is tried on a copy. An error has the number
+    /// of the event.
+    pub fn run(&self) -> Result<(), (usize, String)> {
+        let mut unit = Unit::new(&self.setup);
+        for (i, event) in self.events.iter().enumerate() {
+            event.happen(&mut unit).map_err(|words| (i + 1, words))?;
+        }
+        Ok(())
+    }
+}
+
+impl Event {
+    fn happen(&self, unit: &mut Unit) -> Result<(), String> {
+        match self.clone() {
+            Event::FirstSave { open, secret, fill } => {
+                let (open_part, secret) = parts(open, secret, fill);
+                unit.first_save(open_part, secret)?;
+            }
+            Event::Save { session_back, open, secret, fill } => {
+                let (open_part, secret) = parts(open, secret, fill);
+                unit.save(session_back, open_part, secret)?;
+            }
+            Event::PowerUp => {
+                unit.power_up()?;
+            }
+            Event::Advance(times) => return advance(unit, times),
+            Event::AllBut(left) => return advance(unit, unit.book.to_come().len().saturating_sub(left)),
+            Event::Look => unit.look()?,
+            Event::Cut => unit.cut(),
+            Event::CutInto(left) => unit.cut_into(left)?,
+            // The unit is as it was, so there is nothing to try.
+            Event::Wrong { operation, twists, fill } => return wrong(unit, operation, &twists, fill),
+        }
+        unit.trial()
+    }
+}
+
+/// A trial after each advance; in a long checkpoint, whose words are much alike, after some 16 of them, and after the last.
+fn advance(unit: &mut Unit, times: usize) -> Result<(), String> {
+    let every = 1 + unit.book.to_come().len() / 128 * 8;
+    for i in 0..times {
+        let answer = unit.advance()?;
+        if i % every == 0 || unit.book.to_come().len() < 3 {
+            unit.trial()?;
+        }
+        if answer != GOING_ON {
+            break;
+        }
+    }
+    unit.trial()
+}
+
+/// The call, and if it does not stop some advances of the job that it answers.
+fn wrong(unit: &Unit, operation: Operation, twists: &[Twist], fill: u64) -> Result<(), String> {
+    let mut lent = unit.lent.clone();
+    let mut random = Random::new(fill);
+    let room = (lent.fram.len() / 2 - 44) / 4;
+    lent.nonce = unit.new_nonce();
+    lent.session = unit.session(0);
+    lent.open_part = random.bytes(4 * (room / 3));
+    lent.secret = random.bytes(4 * (room / 2));
+    for twist in twists {
+        twist.apply(&mut lent, unit);
+    }
+    let answer = call(operation, &mut lent)?;
+    if stopped(answer) || operation == Operation::Look {
+        return Ok(());
+    }
+    lent.session = random.bytes(40);
+    for _ in 0..60 {
+        if call(Operation::Advance, &mut lent)? != GOING_ON {
+            break;
+        }
+    }
+    Ok(())
+}
+
+impl Twist {
+    fn apply(self, c: &mut Lent, unit: &Unit) {
+        match self {
+            Twist::Pages(n) => c.pages = n,
+            Twist::Slots(n) => c.slots = n,
+            Twist::PagesForSlots => (c.pages, c.slots) = (c.slots, c.pages),
+            Twist::RingLength(n) => c.ring.resize(n, 0xFF),
+            Twist::FramLength(n) => c.fram.resize(n, 0xA5),
+            Twist::KeyLength(n) => c.key.resize(n, 0xA5),
+            Twist::KeyBit(bit) => turn(&mut c.key, bit),
+            Twist::NonceLength(n) => c.nonce.resize(n, 0xA5),
+            Twist::UsedNonce(back) => c.nonce = unit.used_nonce(back),
+            Twist::StartingTagLength(n) => c.starting_tag.resize(n, 0xA5),
+            Twist::OpenLength(n) => c.open_part.resize(n, 0xA5),
+            Twist::SecretLength(n) => c.secret.resize(n, 0xA5),
+            Twist::StagingLength(n) => c.staging.resize(n, 0xA5),
+            Twist::StateLength(n) => c.state.resize(n, 0xA5),
+            Twist::JobLength(n) => c.job.resize(n, 0xA5),
+            Twist::JobWord(i, value) => put(&mut c.job, 4 * i, &value.to_be_bytes()),
+            Twist::OldJob(back) => {
+                if let Some(job) = unit.jobs.iter().rev().nth(back) {
+                    c.job = job.to_vec();
+                }
+            }
+            Twist::MadeUpJob(seed) => c.job = made_up_job(c, seed).to_bytes(),
+            Twist::SessionLength(n) => c.session.resize(n, 0xA5),
+            Twist::SessionBit(bit) => turn(&mut c.session, bit),
+            Twist::SessionWord(i, value) => put(&mut c.session, 4 * i, &value.to_be_bytes()),
+            Twist::OldSession(back) => c.session = unit.session(back),
+            Twist::OtherUnitsSession(seed) => {
+                let mut random = Random::new(seed);
+                let nonce = random.bytes(12);
+                put(&mut c.session, 8, &record(&nonce, random.below(2)));
+                put(&mut c.session, 24, &random.bytes(16));
+            }
+            Twist::NewestSession => {
+                if let Some(newest) = newest(unit) {
+                    c.session = [(newest.page as u32).to_be_bytes(), (newest.slot as u32).to_be_bytes()].concat();
+                    c.session.extend(newest.record);
+                    c.session.extend([0x66; 16]);
+                }
+            }
+            Twist::BlankRing => c.ring.fill(0xFF),
+            Twist::PendingPage(left) => {
+                if let Some(newest) = newest(unit) {
+                    let pages = unit.lent.pages;
+                    Twist::RingPage((newest.page + pages - 1) % pages, left).apply(c, unit);
+                }
+            }
+            Twist::RingByte(at, byte) => put(&mut c.ring, at, &[byte]),
+            Twist::RingPage(page, left) => {
+                let length = 16 * unit.lent.slots;
+                if let Some(page) = c.ring.get_mut(length * page..length * (page + 1)) {
+                    page.copy_from_slice(&left.bytes(page, &vec![0xFF; length]));
+                }
+            }
+            Twist::FramByte(at, byte) => put(&mut c.fram, at, &[byte]),
+            Twist::HeadWord(i, kind, value) => {
+                let half = newest(unit).map_or(0, |newest| newest.half);
+                put(&mut c.fram, half * (unit.lent.fram.len() / 2) + 4 * i, &word(kind, value));
+            }
+            Twist::OtherCheckpoint { open, secret, restarts, fill } => {
+                let Some(newest) = newest(unit) else { return };
+                let (open_part, secret) = parts(open, secret, fill);
+                let other = Checkpoint {
+                    open_part,
+                    secret,
+                    restarts,
+                    previous_tag: [0x77; 16],
+                    nonce: newest.record[..12].try_into().unwrap(),
+                };
+                if other.length() <= half_of(&unit.lent.fram, 0).len() {
+                    put(&mut c.fram, newest.half * (unit.lent.fram.len() / 2), &other.sealed(&unit.lent.key));
+                }
+            }
+        }
+    }
+}
+
+fn newest(unit: &Unit) -> Option<Newest> {
+    match read_ring(unit.lent.pages, unit.lent.slots, &unit.lent.ring) {
+        Reading::Newest(newest) => Some(newest),
+        _ => None,
+    }
+}
+
+/// Puts bytes into a buffer, as far as it reaches.
+fn put(buffer: &mut [u8], at: usize, bytes: &[u8]) {
+    for (i, byte) in bytes.iter().enumerate() {
+        if let Some(place) = buffer.get_mut(at + i) {
+            *place = *byte;
+        }
+    }
+}
+
+fn turn(buffer: &mut [u8], bit: usize) {
+    if let Some(byte) = buffer.get_mut(bit / 8) {
+        *byte ^= 1 << (bit % 8);
+    }
+}
+
+/// A job that stop 14 has nothing against unless it is at a record whose slot is not blank; one in three has one number
+/// that is just out of its range.
+fn made_up_job(c: &Lent, seed: u64) -> Job {
+    let mut random = Random::new(seed);
+    let (pages, slots, half) = (c.pages.clamp(3, 32), c.slots.clamp(2, 512), c.fram.len() / 2);
+    let words = 11 + random.below(half.saturating_sub(44) / 4 + 1);
+    let mut job = Job {
+        phase: match random.below(8) {
+            0 => Phase::EraseFirst(random.below(pages)),
+            1 | 2 => Phase::Words(words - 1 - random.below(4)),
+            3 => Phase::Words(random.below(words)),
+            4 => Phase::EraseAfter(random.below(pages)),
+            _ => Phase::Record,
+        },
+        origin: random.pick(&[Origin::Save, Origin::PowerUp]),
+        half: random.below(2),
+        length: 4 * words,
+        page: random.below(pages),
+        slot: random.pick(&[0, slots - 1, random.clone().below(slots)]),
+        nonce: random.bytes(12).try_into().unwrap(),
+        tag: random.bytes(16).try_into().unwrap(),
+    };
+    match random.below(24) {
+        0 => job.phase = Phase::Words(words),
+        1 => job.phase = Phase::EraseFirst(pages),
+        2 => job.phase = Phase::EraseAfter(pages),
+        3 => job.half = 2,
+        4 => job.page = pages,
+        5 => job.slot = slots,
+        6 => job.length = random.pick(&[40, half + 4, 4 * words + 1, 4 * words + 2]),
+        7 => job.phase = Phase::Done,
+        _ => (),
+    }
+    job
+}
+
+impl fmt::Display for History {
+    fn fmt(&self, f: &mut fmt::Formatter<'_>) -> fmt::Result {
+        let Setup { pages, slots, fram, seed } = self.setup;
+        writeln!(f, "a ring of {pages} pages of {slots} slots, a FRAM of {fram} bytes, bytes by seed {seed}")?;
+        for (i, event) in self.events.iter().enumerate() {
+            writeln!(f, "{:4}  {event}", i + 1)?;
+        }
+        Ok(())
+    }
+}
+
+impl fmt::Display for Event {
+    fn fmt(&self, f: &mut fmt::Formatter<'_>) -> fmt::Result {
+        match self {
+            Event::FirstSave { open, secret, .. } => {
+                write!(f, "first save, open part {open} bytes, secret part {secret}")
+            }
+            Event::Save { session_back: 0, open, secret, .. } => {
+                write!(f, "save, open part {open} bytes, secret part {secret}")
+            }
+            Event::Save { session_back, open, secret, .. } => {
+                write!(f, "save with the session {session_back} before the last, open part {open} bytes, secret part {secret}")
+            }
+            Event::PowerUp => write!(f, "power-up"),
+            Event::AllBut(0) => write!(f, "advances to the end"),
+            Event::AllBut(left) => write!(f, "advances until {left} stores are left"),
+            Event::Advance(times) => write!(f, "{times} advances"),
+            Event::Look => write!(f, "look"),
+            Event::Cut => write!(f, "cut between two calls"),
+            Event::CutInto(left) => write!(f, "cut into the next store, leaving {left:?}"),
+            Event::Wrong { operation, twists, .. } => write!(f, "on copies: {operation:?} with {twists:?}"),
+        }
+    }
+}

@@ -1,0 +1,81 @@
+//! What the typed calls add to the plain ones: stops as errors, the open part as a slice, jobs and sessions kept as bytes.
+
+use godwitshelf::*;
+
+const SIZES: Sizes = Sizes { pages: 3, slots: 2 };
+const KEY: [u8; 32] = [3; 32];
+
+struct Memories {
+    ring: [u8; 96],
+    fram: [u8; 128],
+    staging: [u8; 64],
+}
+
+impl Memories {
+    fn first_save(&mut self, nonce: [u8; 12]) -> Result<Job, Stop> {
+        first_save(SIZES, &self.ring, &self.fram, &KEY, &nonce, &[4; 16], b"volume 3", b"t=10", &mut self.staging)
+    }
+
+    fn save(&mut self, nonce: [u8; 12], session: &Session) -> Result<Job, Stop> {
+        save(SIZES, &self.ring, &self.fram, &KEY, &nonce, session, b"volume 4", b"t=11", &mut self.staging)
+    }
+
+    /// Advances to the end, keeping the job as bytes between the stores; the answer and how many stores it took.
+    fn finish(&mut self, mut job: Job) -> (Progress, usize) {
+        for stores in 1.. {
+            job = Job::from_bytes(*job.as_bytes());
+            let progress = advance(SIZES, &mut self.ring, &mut self.fram, &self.staging, &mut job).unwrap();
+            if progress != Progress::GoingOn {
+                let again = advance(SIZES, &mut self.ring, &mut self.fram, &self.staging, &mut job);
+                assert_eq!(again, Err(Stop::BadJob));
+                return (progress, stores);
+            }
+        }
+        unreachable!()
+    }
+}
+
+/// "M13 open 8, secret 4 bytes: length 56, so 14 words and a record: 15 stores, 16 with an erase."
+#[test]
+fn a_units_life() {
+    let mut unit = Memories { ring: [0xFF; 96], fram: [0; 128], staging: [0; 64] };
+    assert_eq!(look(SIZES, &unit.ring, &unit.fram, &KEY), Err(Stop::RingBlank));
+
+    let job = unit.first_save([1; 12]).unwrap();
+    let (Progress::Saved(session), 15) = unit.finish(job) else { panic!() };
+    assert_eq!(unit.first_save([2; 12]), Err(Stop::RingInUse));
+    assert_eq!(unit.save([1; 12], &session), Err(Stop::NonceUsed));
+
+    let session = Session::from_bytes(*session.as_bytes());
+    let job = unit.save([2; 12], &session).unwrap();
+    let (Progress::Saved(_), 15) = unit.finish(job) else { panic!() };
+    assert_eq!(unit.save([3; 12], &session), Err(Stop::StaleSession));
+
+    let mut state = [0; 4096];
+    let up = power_up(SIZES, &unit.ring, &unit.fram, &KEY, &[3; 12], &mut unit.staging, &mut state).unwrap();
+    assert_eq!(&state[..up.secret_len], b"t=11");
+    let (Progress::Restored(session), 16) = unit.finish(up.job) else { panic!() };
+
+    // The third checkpoint stands in half A, so its open part at byte 28 of the image.
+    let seen = look(SIZES, &unit.ring, &unit.fram, &KEY).unwrap();
+    assert_eq!((seen.restarts, seen.open_part), (1, &b"volume 4"[..]));
+    assert!(std::ptr::eq(seen.open_part, &unit.fram[28..36]));
+    assert_eq!(look(SIZES, &unit.ring, &unit.fram, &[4; 32]), Err(Stop::TagDiffers));
+    assert_eq!(look(SIZES, &unit.ring, &unit.fram, &[4; 31]), Err(Stop::KeyNonceTagSize));
+
+    assert!(unit.save([4; 12], &session).is_ok());
+}
+
+#[test]
+fn sealing_alone() {
+    let mut out = [0; 10];
+    let tag = seal(&KEY, &[1; 12], b"beside", b"text", &mut out).unwrap();
+    let mut back = [9; 10];
+    assert_eq!(open(&KEY, &[1; 12], b"beside", &out[..4], &tag, &mut back), Ok(()));
+    assert_eq!(&back, b"text\x09\x09\x09\x09\x09\x09");
+    assert_eq!(open(&KEY, &[2; 12], b"beside", &out[..4], &tag, &mut back), Err(Stop::TagDiffers));
+    assert_eq!(seal(&KEY, &[1; 11], b"", b"", &mut out), Err(Stop::KeyNonceTagSize));
+    assert_eq!(seal(&KEY, &[1; 12], b"", &[0; 11], &mut out), Err(Stop::BufferSize));
+    wipe(&mut back);
+    assert_eq!(back, [0; 10]);
+}
