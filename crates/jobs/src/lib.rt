@@ -13,7 +13,6 @@ pub use lent::advance_lent;
 pub use memories::check_memories;
 pub use saves::first_save;
 pub use saves::first_save_check;
-pub use saves::nonce_array;
 pub use types::Advanced;
 pub use types::Job;
 pub use types::Moved;

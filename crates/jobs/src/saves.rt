@@ -14,8 +14,7 @@ use gcm::key_wrong;
 use gcm::nonce_wrong;
 use gcm::tag_wrong;
 use octets::blank;
-use octets::copy;
-use octets::limits::NONCE_LENGTH;
+use octets::twelve;
 use ring::Newest;
 use ring::half_named;
 use ring::nonce_used;
@@ -62,16 +61,6 @@ fn not_begun(stop: Stop) -> Started
     }
 }
 
-// A nonce as an array.
-pub fn nonce_array(nonce: &[u8]) -> [u8; NONCE_LENGTH]
-    requires { ⌜ length (now nonce) ≡ nonce-length ⌝ }
-    ensures { λ r. ⌜ r ≡ now (nonce .entry) ⌝ }
-{
-    let mut r = [0u8; NONCE_LENGTH];
-    copy(nonce, &mut r);
-    r
-}
-
 // Seals a save's checkpoint into staging, and makes the job that stores it in a half and at a target.
 fn begin_save(
     key: &[u8],
@@ -97,7 +86,7 @@ fn begin_save(
         length: EMPTY_LENGTH + open.len() + secret.len(),
         page,
         slot,
-        nonce: nonce_array(nonce),
+        nonce: twelve(nonce),
         tag,
     };
     Started {

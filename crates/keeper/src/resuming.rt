@@ -24,13 +24,13 @@ use jobs::Phase;
 use jobs::Start;
 use jobs::check_memories;
 use jobs::no_job;
-use jobs::nonce_array;
 use octets::fill;
 use octets::limits::NONCE_LENGTH;
 use octets::limits::PART_LIMIT;
 use octets::limits::RESTART_LIMIT;
 use octets::limits::TAG_LENGTH;
 use octets::part;
+use octets::twelve;
 use ring::Newest;
 use ring::half_named;
 use ring::nonce_used;
@@ -243,7 +243,7 @@ fn restore(
                 length: EMPTY_LENGTH + head.open + head.secret,
                 page,
                 slot,
-                nonce: nonce_array(nonce),
+                nonce: twelve(nonce),
                 tag,
             };
             PoweredUp {

@@ -5,12 +5,13 @@ use jobs::Phase;
 use jobs::Session;
 use jobs::no_job;
 use jobs::no_session;
-use octets::copy;
 use octets::copy_at;
 use octets::limits::NONCE_LENGTH;
 use octets::limits::SLOT_LENGTH;
 use octets::limits::TAG_LENGTH;
 use octets::part;
+use octets::sixteen;
+use octets::twelve;
 use octets::word_at;
 use octets::word_bytes;
 ghost use mathlib.Core.Path.{_≡_};
@@ -41,9 +42,7 @@ fn nonce_at(bytes: &[u8], i: usize) -> [u8; NONCE_LENGTH]
     requires { ⌜ i + nonce-length ≤ length (now bytes) ⌝ }
     ensures { λ r. ⌜ r ≡ part (now (bytes .entry)) i nonce-length ⌝ }
 {
-    let mut r = [0u8; NONCE_LENGTH];
-    copy(part(bytes, i, NONCE_LENGTH), &mut r);
-    r
+    twelve(part(bytes, i, NONCE_LENGTH))
 }
 
 // The record or the tag at offset i.
@@ -51,9 +50,7 @@ fn sixteen_at(bytes: &[u8], i: usize) -> [u8; TAG_LENGTH]
     requires { ⌜ i + tag-length ≤ length (now bytes) ⌝ }
     ensures { λ r. ⌜ r ≡ part (now (bytes .entry)) i tag-length ⌝ }
 {
-    let mut r = [0u8; TAG_LENGTH];
-    copy(part(bytes, i, TAG_LENGTH), &mut r);
-    r
+    sixteen(part(bytes, i, TAG_LENGTH))
 }
 
 fn phase_of(number: u32, place: usize) -> Phase

@@ -69,6 +69,26 @@ pub fn copy_at(from: &[u8], to: &mut [u8], i: usize)
     copy(from, &mut to[i..]);
 }
 
+// The twelve bytes of a string as an array.
+pub fn twelve(s: &[u8]) -> [u8; 12]
+    requires { ⌜ length (now s) ≡ 12 ⌝ }
+    ensures { λ r. ⌜ r ≡ now (s .entry) ⌝ }
+{
+    let mut r = [0u8; 12];
+    copy(s, &mut r);
+    r
+}
+
+// The sixteen bytes of a string as an array.
+pub fn sixteen(s: &[u8]) -> [u8; 16]
+    requires { ⌜ length (now s) ≡ 16 ⌝ }
+    ensures { λ r. ⌜ r ≡ now (s .entry) ⌝ }
+{
+    let mut r = [0u8; 16];
+    copy(s, &mut r);
+    r
+}
+
 // Sets every byte to b.
 pub fn fill(s: &mut [u8], b: u8)
     ensures { λ _. ⌜ now (s .exit) ≡ replicate (length (now (s .entry))) b ⌝ }

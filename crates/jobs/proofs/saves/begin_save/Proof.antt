@@ -31,7 +31,7 @@ returns c =
         length = long i;
         page = a .page;
         slot = a .slot;
-        nonce = c .nonce-array .ensures i;
+        nonce = c .twelve .ensures i;
         tag = sealed .0 i;
       };
       secret-length = 0;

@@ -34,7 +34,7 @@ returns-2 c =
     let made = c .before .before .before .before .before .before .before .before .before .before .reseal .ensures in
     let told = ap check-number (c .before .before .before .before .enum-told .given .1) in
     restore-begins (a .key .now) (a .latest .now) (a .half .now) (a .nonce .now) (s .pre .3) _ (a .head .«open») (a .head .secret) (a .other) (a .page) (a .slot) (view-phase (a .phase)) _
-    (a .staging .now) _ (a .state .now) _ _ (sym (made .check) ∙ told) (s .pre .4 .open-part) (s .pre .4 .secret) (c .nonce-array .ensures) (made .begins told)
+    (a .staging .now) _ (a .state .now) _ _ (sym (made .check) ∙ told) (s .pre .4 .open-part) (s .pre .4 .secret) (c .twelve .ensures) (made .begins told)
 
 pub restore-spec : {M : Type 1} → statement M
 restore-spec =

@@ -1,15 +1,11 @@
 -- `keeper_c::bytes::sixteen_at` meets its contract. Assumes nothing.
 use mathlib.Core.Path.{_∙_}
-use native.Mathlib.Omega.{arith}
 use borrow.Author.Needs.{needs}
-use Rattle.octets.proofs.Lent.{over}
 use Rattle.keeper_c.proofs.bytes.sixteen_at.Statement.{statement}
 use Rattle.keeper_c.proofs.bytes.sixteen_at.Tie as tie
 
 returns : tie.Need-returns
-returns c =
-    let cut = c .before .before .before .part .ensures in
-    over _ _ _ (omega (arith, cut .1)) (c .before .copy .ensures) ∙ cut .0
+returns c = c .sixteen .ensures ∙ c .before .part .ensures .0
 
 pub sixteen-at-spec : {M : Type 1} → statement M
-sixteen-at-spec = tie.close (tie.spec (λ c κs. search needs) (λ c. search needs) (λ c κs. search needs) returns)
+sixteen-at-spec = tie.close (tie.spec (λ c κs. search needs) (λ c κs. c .part .ensures .1) returns)
