@@ -1,21 +1,41 @@
 /* The checkpoint keeper of a baby monitor's parent unit: the calls for C.
  *
- * Link target/staticlib/libkeeper_c.a, which `rt staticlib keeper_c` makes. The library is proved: every call ends, answers and leaves
- * behind its pointers what crates/keeper_c/specs/Calls.antt says, for all numbers and bytes that it can be given. It has no state and no
- * heap, and calls nothing. Nothing checks this header against it; it was written from the functions marked `extern "C"` in
- * crates/keeper_c/src.
+ * Link target/staticlib/libkeeper_c.a, which `rt staticlib keeper_c` makes for x86-64 Linux; size_t is 64 bits. The library is proved: every
+ * call ends, and answers and leaves in the caller's memory what its contract in crates/keeper_c/src says, for all numbers and bytes that it
+ * can be given. It keeps no state, has no heap, and calls nothing but memcpy and memset. Nothing checks this header against it; it was
+ * written from the functions marked `extern "C"` there.
  *
- * What the caller owes, and no call can check: each pointer with the length behind it is a buffer of at least that length; a buffer that a
- * call writes overlaps no other argument of that call; pointers to a number are aligned, and none is null. (An empty buffer may have any
- * pointer but null.)
+ * What no call can check, and the caller owes
+ * - Each pointer with the length after it is a buffer of at least that length. No pointer is null, not even that of an empty buffer.
+ *   Pointers to numbers are aligned; byte buffers need no alignment.
+ * - A buffer or number that a call writes overlaps no other argument of the call (so no sealing or opening in place), and nobody else, no
+ *   interrupt and no DMA, touches an argument while the call runs.
+ * - One key, one number of pages and slots and one FRAM length for the unit's life.
+ * - A nonce is used up once a start or keeper_seal answered 0 with it, even if its job is never finished. It must never be used again under
+ *   the same key, over all restarts.
+ * - One job at a time: a start drops the job before it, which must not be advanced any more. Staging stays as the start left it until the
+ *   job is done; key, nonce and parts need not be kept.
+ * - Only ring and FRAM outlive a restart. Job, session, staging and state are made anew by a power-up.
  *
- * The memories are lent as they stand: `ring` is the nonce ring in flash, pages x slots x 16 bytes, pages 3 to 32, slots 2 to 512; `fram`
- * is the FRAM, 88 to 131,072 bytes, a multiple of 8. Only keeper_advance writes to them, one store for each call: a page of the ring set to
- * 0xFF, one record of 16 bytes, or one word of 4 bytes. Where the memories cannot be addressed, lend images in RAM and make each store
- * durable before the next call; the power may fail between any two stores and in any one of them.
+ * The memories
+ * `ring` is the nonce ring in flash: pages x slots x 16 bytes, pages 3 to 32, slots 2 to 512; a page is what one erase of the chip clears.
+ * `fram` is the FRAM: 88 to 131,072 bytes, a multiple of 8, in two halves. Only keeper_advance writes to them, one store for each call:
+ *     phase 1 or 4   the page in bytes 4..8 of the job, set to 0xFF
+ *     phase 2        4 bytes of the FRAM at half x fram_len / 2 + 4 x (the word in bytes 4..8 of the job)
+ *     phase 3        the record, 16 bytes of the ring at 16 x (target page x slots + target slot)
+ * as the job stood before the call. Where plain stores do not reach the chip (flash, as a rule), lend images in RAM and program that store
+ * after each advance; in any case it must have reached the chip before the next call. If the chip refuses it, drop images and job, read the
+ * chips again and power up.
+ * The power may fail between two stores and in any of them. A word or page cut into may hold any bytes. A record must be whole or not there:
+ * program its 16 bytes as one.
+ * Every pages x slots saves and power-ups erase each page once.
  *
- * Every call but keeper_wipe answers 0 for done or the number of a stop. A stop changes nothing behind any pointer. The numbers are tried
- * in rising order:
+ * The answers
+ * keeper_wipe answers nothing; keeper_advance answers 256 and up or a stop; every other call answers 0 or a stop. A stop changes nothing in
+ * the caller's memory. The lowest number that applies is given.
+ *
+ * Not proved: time (the costs below are those of the source; AES looks up tables at places that depend on key and data), and what is left
+ * on the stack.
  */
 #ifndef KEEPER_H
 #define KEEPER_H
@@ -32,21 +52,24 @@ enum keeper_answer {
     KEEPER_RING_SIZE = 1,           /* pages, slots or the ring's length wrong */
     KEEPER_FRAM_SIZE = 2,           /* the FRAM's length wrong */
     KEEPER_KEY_NONCE_TAG_SIZE = 3,  /* key not 32, nonce not 12 or tag not 16 bytes */
-    KEEPER_BUFFER_SIZE = 4,         /* a part not a multiple of 4 bytes, above 4,096, or the checkpoint longer than a half; staging, state,
-                                       output or session buffer too short; text or associated data above 65,536 */
+    KEEPER_BUFFER_SIZE = 4,         /* a part not a multiple of 4 bytes, above 4,096, or the checkpoint longer than a half; staging, state or
+                                       output too short; a session buffer to be written not 40 bytes; text or associated data above 65,536 */
     KEEPER_RING_IN_USE = 5,         /* first save: the ring is not blank */
-    KEEPER_RING_BLANK = 6,          /* the ring is wholly blank: nothing was ever recorded */
+    KEEPER_RING_BLANK = 6,          /* the ring is wholly blank: a new unit, or an erased flash */
     KEEPER_RING_UNREADABLE = 7,     /* the ring is not readable */
-    KEEPER_STALE_SESSION = 8,       /* the session is not the newest record's */
-    KEEPER_PAGE_PENDING = 9,        /* save: a page awaits erasing; finish the job, or power up */
-    KEEPER_NONCE_USED = 10,         /* the nonce equals one in a record of the newest page */
-    KEEPER_BAD_HEAD = 11,           /* the newest checkpoint's head is wrong */
-    KEEPER_TAG_DIFFERS = 12,        /* it, or the text given to keeper_open, is not what was sealed */
+    KEEPER_STALE_SESSION = 8,       /* the session's page, slot or record is not the newest, or its buffer is not 40 bytes: finish the job that
+                                       is under way, or power up */
+    KEEPER_PAGE_PENDING = 9,        /* save: a page awaits erasing; power up */
+    KEEPER_NONCE_USED = 10,         /* the nonce equals one in a record of the newest page: call again with a new one */
+    KEEPER_BAD_HEAD = 11,           /* a word of the newest checkpoint's head is wrong, or the checkpoint is longer than the half */
+    KEEPER_TAG_DIFFERS = 12,        /* the tag of the newest checkpoint, or the one given to keeper_open, differs: other bytes, key or nonce */
     KEEPER_RESTART_LIMIT = 13,      /* 8 restarts with no save between */
-    KEEPER_BAD_JOB = 14,            /* the job is done, or is none of this unit's */
+    KEEPER_BAD_JOB = 14,            /* the job is done; its length, half, page, slot or word is out of its range; at a record the target is not
+                                       blank; or the job buffer is not 56 bytes or has an unknown phase or origin. An old copy of a job, or
+                                       one of another unit, is not found out by this. */
 
     KEEPER_GOING_ON = 256,          /* keeper_advance: more stores to come */
-    KEEPER_SAVED = 257,             /* keeper_advance: done; the checkpoint of a save is the newest */
+    KEEPER_SAVED = 257,             /* keeper_advance: done; a save's checkpoint is the newest */
     KEEPER_RESTORED = 258           /* keeper_advance: done; the state may be used */
 };
 
@@ -60,32 +83,33 @@ enum keeper_size {
     KEEPER_SESSION_SIZE = 40
 };
 
-/* A job: 56 bytes, words of 4 bytes, the most significant first.
+/* A job: 56 bytes. Numbers are words of 4 bytes, the most significant first.
  *    0  phase: 1 erase first, 2 words, 3 record, 4 erase after, 5 done      16  length of the checkpoint in bytes
  *    4  the phase's page or word number, 0 where it has none                20  target page
  *    8  1 save, 2 power-up                                                  24  target slot
  *   12  half: 0 A, 1 B                                                      28  nonce, 12 bytes; 40 the checkpoint's tag, 16 bytes
  * A session: 40 bytes.  0 page   4 slot   8 newest record, 16 bytes   24 its checkpoint's tag, 16 bytes
- * Both are only handed from call to call. Keep neither over a restart: a power-up makes them anew.
  */
 
-/* Sealing: AES-256-GCM with a nonce of 12 bytes and a tag of 16. Writes text_len bytes to `out`, nothing behind them, and the tag.
+/* Sealing: AES-256-GCM with a nonce of 12 bytes and a tag of 16. Text and associated data are 0 to 65,536 bytes each. Writes text_len bytes
+ * to `out`, which is at least as long, nothing after them, and the tag.
  * Stops: 3 (also a tag buffer that is not 16 bytes), 4. Cost: a key schedule and a set-up of GHASH, then each block of 16 bytes once.
  */
 uint32_t keeper_seal(const uint8_t *key, size_t key_len, const uint8_t *nonce, size_t nonce_len,
                      const uint8_t *aad, size_t aad_len, const uint8_t *text, size_t text_len,
                      uint8_t *out, size_t out_len, uint8_t *tag, size_t tag_len);
 
-/* Opening: the tag is compared first; only if it is right are cipher_len bytes of text written to `out`.
+/* Opening: where the tag is right, writes cipher_len bytes to `out`, and nothing after them. Lengths as for keeper_seal.
  * Stops: 3, 4, 12. Cost: as sealing; where the tag differs, without the decryption.
  */
 uint32_t keeper_open(const uint8_t *key, size_t key_len, const uint8_t *nonce, size_t nonce_len,
                      const uint8_t *aad, size_t aad_len, const uint8_t *cipher, size_t cipher_len,
                      const uint8_t *tag, size_t tag_len, uint8_t *out, size_t out_len);
 
-/* The unit's first checkpoint, on a blank ring: seals both parts with restarts 0 behind `starting_tag`, 16 random bytes, into staging (at
- * least half the FRAM) and writes the job that stores it. Nothing is recorded until keeper_advance has made the record.
- * Parts: multiples of 4 bytes, 0 to 4,096 each; 44 bytes and both parts must fit half the FRAM. Every nonce must be new to the key.
+/* The unit's first checkpoint, on a blank ring: seals both parts into staging, with restarts 0 and `starting_tag`, 16 random bytes, as the
+ * previous tag, and writes the job that stores it. Nothing is recorded until keeper_advance has made the record.
+ * Parts: multiples of 4 bytes, 0 to 4,096 each; 44 bytes and both parts must fit half the FRAM. Staging: at least half the FRAM; its bytes
+ * after the checkpoint keep their contents.
  * Stops: 1 to 5, 14 (the job buffer is not 56 bytes). Cost: one pass over the ring, one sealing.
  */
 uint32_t keeper_first_save(size_t pages, size_t slots, const uint8_t *ring, size_t ring_len,
@@ -94,8 +118,9 @@ uint32_t keeper_first_save(size_t pages, size_t slots, const uint8_t *ring, size
                      const uint8_t *open_part, size_t open_len, const uint8_t *secret, size_t secret_len,
                      uint8_t *staging, size_t staging_len, uint8_t *job, size_t job_len);
 
-/* The next checkpoint, with restarts 0, linked by its tag to the one of `session`, the session that the last finished job left.
- * Stops: 1 to 4, 6 to 10 (8 also a session buffer that is not 40 bytes), 14. Cost: one reading of the ring, one sealing.
+/* The next checkpoint, with restarts 0 and the session's tag as the previous one. `session` is the one that the last finished job left; its
+ * tag is taken as it is. Parts and buffers as for keeper_first_save.
+ * Stops: 1 to 4, 6 to 10, 14 (the job buffer is not 56 bytes). Cost: one reading of the ring, one sealing.
  */
 uint32_t keeper_save(size_t pages, size_t slots, const uint8_t *ring, size_t ring_len,
                      const uint8_t *fram, size_t fram_len, const uint8_t *key, size_t key_len,
@@ -103,10 +128,12 @@ uint32_t keeper_save(size_t pages, size_t slots, const uint8_t *ring, size_t rin
                      const uint8_t *open_part, size_t open_len, const uint8_t *secret, size_t secret_len,
                      uint8_t *staging, size_t staging_len, uint8_t *job, size_t job_len);
 
-/* After every restart: opens the newest checkpoint, puts its secret part to the front of `state` (at least 4,096 bytes) and its length to
- * *secret_len, and seals both parts anew, with one restart more, into staging; writes the job that stores it. The state may be used once
- * keeper_advance has answered KEEPER_RESTORED. Sound the alert on any stop but 6.
- * Stops: 1 to 4, 6, 7, 10 to 13, 14 (the job buffer is not 56 bytes). Cost: one reading of the ring; the checkpoint is hashed once,
+/* After every restart: opens the newest checkpoint, puts its secret part at the front of `state` (at least 4,096 bytes; those after it keep
+ * their contents) and its length into *secret_len, seals both parts anew, with one restart more, into staging, and writes the job that stores
+ * it. `state` then holds plaintext; it may be used once keeper_advance has answered KEEPER_RESTORED, and is the caller's to wipe.
+ * On 6 make a first save; on 10 call again with a new nonce; on any other stop sound the alert. After 7, 11, 12 and 13 only erasing the
+ * whole ring and a first save go on, and the state is lost.
+ * Stops: 1 to 4, 6, 7, 10 to 14 (14: the job buffer is not 56 bytes). Cost: one reading of the ring; the checkpoint is hashed once,
  * decrypted once and sealed once.
  */
 uint32_t keeper_power_up(size_t pages, size_t slots, const uint8_t *ring, size_t ring_len,
@@ -114,24 +141,25 @@ uint32_t keeper_power_up(size_t pages, size_t slots, const uint8_t *ring, size_t
                      const uint8_t *nonce, size_t nonce_len, uint8_t *staging, size_t staging_len,
                      uint8_t *state, size_t state_len, uint8_t *job, size_t job_len, size_t *secret_len);
 
-/* The restarts of the newest checkpoint, and where its open part lies in the FRAM. Stores nothing in the memories.
+/* The restarts of the newest checkpoint, whose tag was compared, and where its open part lies: *open_len bytes at byte *open_start of `fram`,
+ * until an advance stores to that half again.
  * Stops: 1 to 3, 6, 7, 11, 12. Cost: one reading of the ring; the checkpoint is hashed once.
  */
 uint32_t keeper_look(size_t pages, size_t slots, const uint8_t *ring, size_t ring_len,
                      const uint8_t *fram, size_t fram_len, const uint8_t *key, size_t key_len,
                      uint32_t *restarts, size_t *open_start, size_t *open_len);
 
-/* Makes the one store that the job's phase names, and moves the job on in its buffer. Give it the job and staging as the start left them.
- * Answers KEEPER_GOING_ON; at the job's last store KEEPER_SAVED or KEEPER_RESTORED, and then `session` holds the new session, which it
- * does not touch before. A checkpoint of n bytes takes n / 4 words and a record, and an erase where a page was left pending or was filled.
- * Stops: 1, 2, 4 (also a session buffer that is not 40 bytes), 14 (also a job buffer that is not 56 bytes, or an unknown phase or origin).
- * Cost: constant for a word; for a record, constant, and into slot 0 a look at the page before; for an erase one page.
+/* Makes the one store that the job's phase names, and moves the job on in its buffer. Give it staging as the start left it, and the job as
+ * the start or the last advance left it. Answers KEEPER_GOING_ON; at the job's last store KEEPER_SAVED or KEEPER_RESTORED, and only then
+ * `session` is written: the new session. A checkpoint of n bytes takes n / 4 words, a record and one erase at most: first, where a page was
+ * pending, or last, where the record is the first of its page and the page before is not blank.
+ * Stops: 1, 2, 4, 14. Cost: constant for a word; for a record, constant, and into slot 0 a test of the page before; for an erase one page.
  */
 uint32_t keeper_advance(size_t pages, size_t slots, uint8_t *ring, size_t ring_len,
                      uint8_t *fram, size_t fram_len, const uint8_t *staging, size_t staging_len,
                      uint8_t *job, size_t job_len, uint8_t *session, size_t session_len);
 
-/* Zeroes a buffer of any length. */
+/* Zeroes a buffer of any length. Optimisation at link time may drop it where nothing reads the buffer any more. */
 void keeper_wipe(uint8_t *buffer, size_t buffer_len);
 
 #ifdef __cplusplus

@@ -1,6 +1,6 @@
 /* A firmware's main loop over the keeper: power up or save for the first time, make one store each turn, save when the state has changed,
- * and sound the alert on a stop. The board is simulated: its flash and FRAM outlive a restart, its RAM does not, and the supply fails after
- * a number of turns that main() chooses.
+ * and sound the alert on a stop. The board is simulated: its chips outlive a restart, its RAM does not, and the supply fails after a number
+ * of turns that main() chooses.
  */
 #include <stdbool.h>
 #include <stdio.h>
@@ -8,144 +8,208 @@
 
 #include "keeper.h"
 
-enum {
-    PAGES = 3,
-    SLOTS = 2,
-    HALF = 64,
-    STORES = 14 /* of this unit's checkpoint where nothing is to be erased: 52 bytes are 13 words, and the record */
-};
-
-/* What outlives a restart. */
-static struct {
-    uint8_t ring[PAGES * SLOTS * KEEPER_SLOT_SIZE];
-    uint8_t fram[2 * HALF];
-} memory;
-
-/* ---- the board */
-
-static void device_key(uint8_t key[KEEPER_KEY_SIZE]) { memset(key, 0x42, KEEPER_KEY_SIZE); }
-
-/* Bytes that never come again. A unit takes them from its random generator; this one counts, so that its output is always the same. */
-static void fresh_bytes(uint8_t *bytes, size_t n) {
-    static uint32_t count;
-    memset(bytes, 0, n);
-    count++;
-    for (int i = 0; i < 4; i++) bytes[n - 1 - i] = (uint8_t)(count >> (8 * i));
-}
-
 /* ---- the unit's state: the volume is open, the out-of-range timer is secret */
 
 struct state {
     uint8_t volume[4];
-    uint8_t timer[4];
+    uint8_t timer[4]; /* this example counts in the last byte only */
 };
 
-/* RAM, which a restart loses. */
-struct unit {
+enum {
+    PAGES = 3,
+    SLOTS = 2,
+    PAGE = SLOTS * KEEPER_SLOT_SIZE,
+    HALF = 64,
+    CHECKPOINT = 44 + sizeof(struct state),
+    STORES = CHECKPOINT / 4 + 1 /* its words and the record, where nothing is to be erased */
+};
+_Static_assert(CHECKPOINT <= HALF, "the checkpoint fits a half");
+
+/* ---- the board */
+
+/* What outlives a restart: flash, FRAM, and the source of fresh bytes. */
+static struct {
+    uint8_t ring[PAGES * PAGE];
+    uint8_t fram[2 * HALF];
+    uint32_t drawn;
+} chips;
+
+/* What a restart loses. */
+static struct {
+    uint8_t ring[PAGES * PAGE]; /* images of the chips */
+    uint8_t fram[2 * HALF];
     struct state state;
+    bool usable;  /* until then radio and sound must not look at the state */
+    bool changed; /* since the last save began */
+    bool storing; /* a job is under way */
     uint8_t staging[HALF];
     uint8_t opened[KEEPER_STATE_SIZE];
+    size_t opened_len;
     uint8_t job[KEEPER_JOB_SIZE];
     uint8_t session[KEEPER_SESSION_SIZE];
-    bool storing; /* a job is under way */
-};
+} ram;
 
-static int alert(uint32_t stop) {
-    printf("  ALERT: the keeper stopped with %u\n", (unsigned)stop);
-    return 1;
+static void device_key(uint8_t key[KEEPER_KEY_SIZE]) { memset(key, 0x42, KEEPER_KEY_SIZE); }
+
+/* Bytes that never come again, over all restarts. A unit draws them from its random generator; a counter in RAM would begin anew with every
+ * restart. This board counts in a chip, so that the output is always the same.
+ */
+static void fresh_bytes(uint8_t *bytes, size_t n) {
+    memset(bytes, 0, n);
+    chips.drawn++;
+    for (size_t i = 0; i < 4; i++) bytes[n - 1 - i] = (uint8_t)(chips.drawn >> (8 * i));
 }
 
-/* Every restart begins here. A blank ring is a unit that was never used; any other stop sounds the alert. */
-static uint32_t begin(struct unit *u) {
+static size_t word_of(const uint8_t *job, size_t i) {
+    return (size_t)job[i] << 24 | (size_t)job[i + 1] << 16 | (size_t)job[i + 2] << 8 | job[i + 3];
+}
+
+/* Programs the store that an advance of `job` has made in the images. */
+static void make_durable(const uint8_t *job) {
+    size_t at;
+    switch (job[3]) {
+    case 1:
+    case 4:
+        at = PAGE * word_of(job, 4);
+        memcpy(chips.ring + at, ram.ring + at, PAGE);
+        break;
+    case 2:
+        at = HALF * word_of(job, 12) + 4 * word_of(job, 4);
+        memcpy(chips.fram + at, ram.fram + at, 4);
+        break;
+    case 3:
+        at = KEEPER_SLOT_SIZE * (SLOTS * word_of(job, 20) + word_of(job, 24));
+        memcpy(chips.ring + at, ram.ring + at, KEEPER_SLOT_SIZE);
+        break;
+    }
+}
+
+/* ---- the keeper's calls */
+
+/* Every restart begins here. On a blank ring the unit saves for the first time. */
+static uint32_t begin(void) {
     uint8_t key[KEEPER_KEY_SIZE], nonce[KEEPER_NONCE_SIZE], starting_tag[KEEPER_TAG_SIZE];
-    size_t secret_len = 0;
+    uint32_t r;
+    memcpy(ram.ring, chips.ring, sizeof ram.ring);
+    memcpy(ram.fram, chips.fram, sizeof ram.fram);
     device_key(key);
-    fresh_bytes(nonce, sizeof nonce);
-    uint32_t r = keeper_power_up(PAGES, SLOTS, memory.ring, sizeof memory.ring, memory.fram, sizeof memory.fram, key, sizeof key,
-                                 nonce, sizeof nonce, u->staging, sizeof u->staging, u->opened, sizeof u->opened,
-                                 u->job, sizeof u->job, &secret_len);
+    do {
+        fresh_bytes(nonce, sizeof nonce);
+        r = keeper_power_up(PAGES, SLOTS, ram.ring, sizeof ram.ring, ram.fram, sizeof ram.fram, key, sizeof key, nonce, sizeof nonce,
+                            ram.staging, sizeof ram.staging, ram.opened, sizeof ram.opened, ram.job, sizeof ram.job, &ram.opened_len);
+    } while (r == KEEPER_NONCE_USED);
     if (r == KEEPER_RING_BLANK) {
         puts("  first save");
+        memset(&ram.state, 0, sizeof ram.state);
+        fresh_bytes(nonce, sizeof nonce);
         fresh_bytes(starting_tag, sizeof starting_tag);
-        r = keeper_first_save(PAGES, SLOTS, memory.ring, sizeof memory.ring, memory.fram, sizeof memory.fram, key, sizeof key,
-                              nonce, sizeof nonce, starting_tag, sizeof starting_tag, u->state.volume, sizeof u->state.volume,
-                              u->state.timer, sizeof u->state.timer, u->staging, sizeof u->staging, u->job, sizeof u->job);
+        r = keeper_first_save(PAGES, SLOTS, ram.ring, sizeof ram.ring, ram.fram, sizeof ram.fram, key, sizeof key, nonce, sizeof nonce,
+                              starting_tag, sizeof starting_tag, ram.state.volume, sizeof ram.state.volume, ram.state.timer,
+                              sizeof ram.state.timer, ram.staging, sizeof ram.staging, ram.job, sizeof ram.job);
+        ram.usable = r == KEEPER_DONE;
     }
     keeper_wipe(key, sizeof key);
-    u->storing = r == KEEPER_DONE;
+    ram.storing = r == KEEPER_DONE;
     return r;
 }
 
-static uint32_t save(struct unit *u) {
+static uint32_t save(void) {
     uint8_t key[KEEPER_KEY_SIZE], nonce[KEEPER_NONCE_SIZE];
+    uint32_t r;
     device_key(key);
-    fresh_bytes(nonce, sizeof nonce);
-    uint32_t r = keeper_save(PAGES, SLOTS, memory.ring, sizeof memory.ring, memory.fram, sizeof memory.fram, key, sizeof key,
-                             nonce, sizeof nonce, u->session, sizeof u->session, u->state.volume, sizeof u->state.volume,
-                             u->state.timer, sizeof u->state.timer, u->staging, sizeof u->staging, u->job, sizeof u->job);
+    do {
+        fresh_bytes(nonce, sizeof nonce);
+        r = keeper_save(PAGES, SLOTS, ram.ring, sizeof ram.ring, ram.fram, sizeof ram.fram, key, sizeof key, nonce, sizeof nonce,
+                        ram.session, sizeof ram.session, ram.state.volume, sizeof ram.state.volume, ram.state.timer,
+                        sizeof ram.state.timer, ram.staging, sizeof ram.staging, ram.job, sizeof ram.job);
+    } while (r == KEEPER_NONCE_USED);
     keeper_wipe(key, sizeof key);
-    u->storing = r == KEEPER_DONE;
+    ram.storing = r == KEEPER_DONE;
+    ram.changed = false;
     return r;
 }
 
-/* 'restored': the secret part is in RAM; the open part is read where it lies. */
-static uint32_t resume(struct unit *u) {
+/* 'restored': takes the secret part from the buffer, and the open part from where it lies in the FRAM. Parts of other lengths are those of
+ * another firmware.
+ */
+static uint32_t resume(void) {
     uint8_t key[KEEPER_KEY_SIZE];
     uint32_t restarts = 0;
     size_t open_start = 0, open_len = 0;
     device_key(key);
-    uint32_t r = keeper_look(PAGES, SLOTS, memory.ring, sizeof memory.ring, memory.fram, sizeof memory.fram, key, sizeof key,
-                             &restarts, &open_start, &open_len);
+    uint32_t r = keeper_look(PAGES, SLOTS, ram.ring, sizeof ram.ring, ram.fram, sizeof ram.fram, key, sizeof key, &restarts,
+                             &open_start, &open_len);
     keeper_wipe(key, sizeof key);
-    if (r != KEEPER_DONE) return r;
-    memcpy(u->state.timer, u->opened, sizeof u->state.timer);
-    memcpy(u->state.volume, memory.fram + open_start, open_len);
-    keeper_wipe(u->opened, sizeof u->opened);
-    printf("  restored: volume %u, timer %u, restarts %u\n", u->state.volume[3], u->state.timer[3], (unsigned)restarts);
+    if (r == KEEPER_DONE && (open_len != sizeof ram.state.volume || ram.opened_len != sizeof ram.state.timer)) r = KEEPER_BUFFER_SIZE;
+    if (r == KEEPER_DONE) {
+        memcpy(ram.state.volume, ram.fram + open_start, sizeof ram.state.volume);
+        memcpy(ram.state.timer, ram.opened, sizeof ram.state.timer);
+        ram.usable = true;
+        printf("  restored: volume %d, timer %d, restarts %d\n", ram.state.volume[3], ram.state.timer[3], (int)restarts);
+    }
+    keeper_wipe(ram.opened, sizeof ram.opened);
+    return r;
+}
+
+/* The one store of a turn. */
+static uint32_t store(void) {
+    uint8_t before[KEEPER_JOB_SIZE];
+    memcpy(before, ram.job, sizeof before);
+    uint32_t r = keeper_advance(PAGES, SLOTS, ram.ring, sizeof ram.ring, ram.fram, sizeof ram.fram, ram.staging, sizeof ram.staging,
+                                ram.job, sizeof ram.job, ram.session, sizeof ram.session);
+    if (r < KEEPER_GOING_ON) return r;
+    make_durable(before);
+    ram.storing = r == KEEPER_GOING_ON;
+    if (r == KEEPER_SAVED) puts("  saved");
+    if (r == KEEPER_RESTORED) return resume();
     return KEEPER_DONE;
 }
 
-/* The main loop, until the supply fails after `turns` of it. `changes` is how often the state changes in this run. */
-static int run(int turns, int changes) {
-    struct unit u;
-    memset(&u, 0, sizeof u);
-    uint32_t r = begin(&u);
+/* ---- the main loop */
+
+/* Answers the stop on which the alert sounds; a unit goes on sounding it. */
+static uint32_t alert(uint32_t stop) {
+    keeper_wipe(ram.opened, sizeof ram.opened);
+    printf("  ALERT: the keeper stopped with %d\n", (int)stop);
+    return stop;
+}
+
+/* A restart and its turns until the supply fails. In each of the first `changes` turns in which nothing is being stored the knob is moved. */
+static uint32_t run(int turns, int changes) {
+    memset(&ram, 0xA5, sizeof ram); /* what RAM holds after a restart means nothing */
+    ram.usable = ram.changed = ram.storing = false;
+    uint32_t r = begin();
     if (r != KEEPER_DONE) return alert(r);
     for (int turn = 0; turn < turns; turn++) {
-        if (u.storing) { /* one store for each turn */
-            r = keeper_advance(PAGES, SLOTS, memory.ring, sizeof memory.ring, memory.fram, sizeof memory.fram,
-                               u.staging, sizeof u.staging, u.job, sizeof u.job, u.session, sizeof u.session);
-            if (r < KEEPER_GOING_ON) return alert(r);
-            u.storing = r == KEEPER_GOING_ON;
-            if (r == KEEPER_SAVED) printf("  saved: volume %u, timer %u\n", u.state.volume[3], u.state.timer[3]);
-            if (r == KEEPER_RESTORED && (r = resume(&u)) != KEEPER_DONE) return alert(r);
-        } else if (changes > 0) { /* the parent moved the knob; a second has passed */
+        if (ram.usable && !ram.storing && changes > 0) {
             changes--;
-            u.state.volume[3]++;
-            u.state.timer[3]++;
-            r = save(&u);
-            if (r != KEEPER_DONE) return alert(r);
+            ram.state.volume[3]++;
+            ram.state.timer[3]++;
+            ram.changed = true;
         }
-        /* radio and sound have the rest of the turn */
+        if (ram.storing)
+            r = store();
+        else if (ram.changed)
+            r = save();
+        if (r != KEEPER_DONE) return alert(r);
+        /* Radio and sound have the rest of the turn. */
     }
-    puts("  the supply fails");
-    return 0;
+    printf("  the supply fails at volume %d, timer %d\n", ram.state.volume[3], ram.state.timer[3]);
+    return KEEPER_DONE;
 }
 
 int main(void) {
-    memset(&memory, 0xFF, sizeof memory); /* as the chips leave the factory */
-    puts("a new unit: a first save and four saves");
-    run(100, 4);
-    puts("the supply fails in a save, after five of its stores: the save before is resumed");
-    run(STORES + 1 + 5, 1);
-    puts("and again");
-    run(100, 0);
-    puts("a save, and then restarts with no save between");
-    run(100, 1);
-    int stopped = 0;
-    for (int restart = 1; !stopped; restart++) {
-        printf("restart %d\n", restart);
-        stopped = run(20, 0);
+    memset(chips.ring, 0xFF, sizeof chips.ring); /* as flash leaves the factory; the FRAM may hold anything */
+    puts("a new unit: a first save, and four saves");
+    if (run(100, 4) != KEEPER_DONE) return 1;
+    puts("a restart; then the supply fails in a save, after five of its stores");
+    if (run(STORES + 1 + 5, 1) != KEEPER_DONE) return 1;
+    puts("a restart: the save before is resumed; and a save");
+    if (run(100, 1) != KEEPER_DONE) return 1;
+    for (int restart = 1; restart <= 8; restart++) {
+        printf("restart %d with no save between\n", restart);
+        if (run(2 * STORES, 0) != KEEPER_DONE) return 1;
     }
-    return 0;
+    puts("restart 9");
+    return run(2 * STORES, 0) == KEEPER_RESTART_LIMIT ? 0 : 1;
 }

@@ -1,4 +1,4 @@
 -- Laws of the views and of the conditions of saves and advances.
 pub mod ViewLaws
-mod AdvanceLaws
+pub mod AdvanceLaws
 pub mod SaveLaws

@@ -51,7 +51,7 @@ pub small : (p : List ℕ) → part-wrong p ≡ false → length p ≤ part-limi
 unfolding part-wrong
 small p e = ltb-false part-limit (length p) (neither (not (eqb (length p % 4) 0)) (ltb part-limit (length p)) e .1)
 
-lengths : (fram : List ℕ) (a : SaveArguments) → key-wrong (length (a .key)) ≡ false → nonce-wrong (length (a .nonce)) ≡ false
+pub lengths : (fram : List ℕ) (a : SaveArguments) → key-wrong (length (a .key)) ≡ false → nonce-wrong (length (a .nonce)) ≡ false
     → parts-wrong (a .open-part) (a .secret) fram || staging-wrong (a .staging) fram ≡ false → Lengths fram a
 unfolding parts-wrong staging-wrong
 lengths fram a k n e =

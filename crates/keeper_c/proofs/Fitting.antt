@@ -1,0 +1,223 @@
+-- The numbers of every job and session that a call hands out fit words, so what the call writes reads back; the five theorems stand at the end.
+-- Assumes nothing.
+use Prim.Native.Nat.{ℕ, _+_, _*_, _^_, _≤_, _<_}
+use mathlib.Core.Path.{_≡_, refl, ap₂, _∙_}
+use mathlib.Core.Bool.{Bool, true, false, not, cond}
+use mathlib.Core.Option.{Option, none}
+use mathlib.Core.List.{List}
+use native.Mathlib.Omega.{arith}
+use borrow.Author.Tests.{eqb-true, not-false}
+use lib.Dec.{eqb, ltb, lit<}
+use lib.ListN.{length, length-append, take}
+use Rattle.octets.specs.Limits.{nonce-length, tag-length, part-limit}
+use Rattle.octets.proofs.Laws.{length-part}
+use Rattle.octets.proofs.Numbers.{length-word}
+use Rattle.stops.proofs.Laws.{passes, neither}
+use Rattle.ring.specs.Ring.{ring-wrong, record-of, page-before, Newest, Blank, Unreadable, At, AtPending, read-ring, newest-page, newest-slot, next-page, newest-record, target-page, target-slot}
+use Rattle.ring.proofs.SizeLaws.{Sized, sized}
+use Rattle.ring.proofs.TurnLaws.{next-laws, before-laws}
+use Rattle.ring.proofs.NewestLaws.{read-within, pending-before}
+use Rattle.checkpoint.specs.Checkpoint.{Checkpoint}
+use Rattle.checkpoint.specs.Half.{good-head}
+use Rattle.checkpoint.proofs.FramLaws.{half-sizes}
+use Rattle.checkpoint.proofs.SealedLaws.{length-own-tag, length-sealed}
+use Rattle.checkpoint.proofs.StoredLaws.{stored-in-range}
+use Rattle.protocol.specs.Types.{Phase, EraseFirst, Words, Record, EraseAfter, Done, Origin, Job, Session}
+use Rattle.protocol.specs.Calls.{Sizes, SaveArguments, FirstSave, Saves, PowersUp, Advances}
+use Rattle.protocol.specs.Operations.{key-wrong, nonce-wrong, begin, no-job, job-of, first-checkpoint, save-checkpoint, resumed, first-phase, first-save-stop, first-save, save-stop, save, newest-half, newest-checkpoint, power-up-stop, power-up, no-session, job-record, session-of, in-phase, Moved, going-on, ended, recorded, erase-follows, after-record, store, advance-stop, advance-by, advance}
+use Rattle.jobs.proofs.AdvanceLaws.{Ready, ready, word-ready}
+use Rattle.jobs.proofs.SaveLaws.{lengths, first-lengths}
+use Rattle.keeper_c.specs.Bytes.{session-length, phase-place, job-bytes, session-bytes, no-job-in, job-in, session-in}
+use Rattle.keeper_c.specs.Calls.{saves-in, advances-in}
+use Rattle.keeper_c.proofs.BytesLaws.{job-long}
+use Rattle.keeper_c.proofs.ReadBack.{FitsJob, FitsSession, job-back, session-back}
+
+-- what holds of both branches holds of the one taken
+either : {A : Type 0} (P : A → Type 0) (b : Bool) (x y : A) → P x → (b ≡ false → P y) → P (cond b x y)
+either P true x y p q = p
+either P false x y p q = q refl
+
+-- ---- the job of a start
+
+module _ (key : List ℕ) (c : Checkpoint) (phase : Phase) (origin : Origin) (half page slot : ℕ) where
+  made-fits : length (c .previous) ≡ tag-length → length (c .open-part) ≤ part-limit → length (c .secret) ≤ part-limit → length (c .nonce) ≡ nonce-length
+      → phase-place phase < 2 ^ 32 → half < 2 ^ 32 → page < 2 ^ 32 → slot < 2 ^ 32 → FitsJob (job-of key c phase origin half page slot)
+  unfolding job-of
+  made-fits p o s n w h g t =
+      let l = length-sealed key c p in
+      record { place = w; half = h; long = omega arith; page = g; slot = t; nonce = n; tag = length-own-tag key c }
+
+begun-fits : (S : Option ℕ) (key : List ℕ) (c : Checkpoint) (j : Job) (staging state secret : List ℕ) → S ≡ none → FitsJob j → FitsJob (begin S key c j staging state secret .job)
+unfolding begin
+begun-fits S key c j staging state secret e f = rw e f
+
+-- the next target, and the page that is erased first
+module _ (pages slots : ℕ) (ring : List ℕ) (w : ring-wrong pages slots ring ≡ false) where
+  abbrev read : Newest
+  read = read-ring ring pages slots
+
+  abbrev size : Sized pages slots ring
+  size = sized pages slots ring w
+
+  page-fits : target-page pages slots read < 2 ^ 32
+  unfolding target-page
+  page-fits =
+      let at = read-within pages slots ring w in
+      let few = size .numbers .few-pages in
+      let on = next-laws pages (newest-page read) (size .numbers .some-pages) (at .page-in) .in-ring in
+      either (λ (n : ℕ). n < 2 ^ 32) (ltb (newest-slot read + 1) slots) (newest-page read) (next-page pages (newest-page read)) (omega arith) (λ _. omega arith)
+
+  slot-fits : target-slot slots read < 2 ^ 32
+  unfolding target-slot
+  slot-fits =
+      let at = read-within pages slots ring w in
+      let few = size .numbers .few-slots in
+      either (λ (n : ℕ). n < 2 ^ 32) (ltb (newest-slot read + 1) slots) (newest-slot read + 1) 0 (omega arith) (λ _. omega arith)
+
+  phase-fits : (n : Newest) → read-ring ring pages slots ≡ n → phase-place (first-phase n) < 2 ^ 32
+  unfolding first-phase
+  phase-fits Blank e = lit< tt
+  phase-fits Unreadable e = lit< tt
+  phase-fits (At p s) e = lit< tt
+  phase-fits (AtPending p q) e =
+      let few = size .numbers .few-pages in
+      let in-ring = pending-before pages slots ring w p q e .0 in
+      omega arith
+
+module _ (ring fram : List ℕ) where
+  first-save-fits : (a : FirstSave) → first-save-stop ring fram a ≡ none → FitsJob (first-save ring fram a .job)
+  unfolding first-save first-checkpoint
+  first-save-fits a e =
+      let l = first-lengths ring fram a e in
+      begun-fits (first-save-stop ring fram a) _ _ _ _ _ _ e
+      (made-fits _ _ _ _ 0 0 0 (l .1) (l .0 .open-part) (l .0 .secret) (l .0 .nonce) (lit< tt) (lit< tt) (lit< tt) (lit< tt))
+
+  save-fits : (a : Saves) → length (a .session .tag) ≡ tag-length → save-stop ring fram a ≡ none → FitsJob (save ring fram a .job)
+  unfolding save save-checkpoint save-stop
+  save-fits a t e =
+      let z = a .arguments .sizes in
+      let p = passes _ e in
+      let n = neither (key-wrong (length (a .arguments .key))) (nonce-wrong (length (a .arguments .nonce))) (p .1 .1 .0) in
+      let l = lengths fram (a .arguments) (n .0) (n .1) (p .1 .1 .1 .0) in
+      begun-fits (save-stop ring fram a) _ _ _ _ _ _ e
+      (made-fits _ _ _ _ _ _ _ t (l .open-part) (l .secret) (l .nonce) (lit< tt) (omega arith)
+      (page-fits (z .pages) (z .slots) ring (p .0)) (slot-fits (z .pages) (z .slots) ring (p .0)))
+
+  power-up-fits : (a : PowersUp) → power-up-stop ring fram a ≡ none → FitsJob (power-up ring fram a .job)
+  unfolding power-up newest-checkpoint resumed power-up-stop
+  power-up-fits a e =
+      let z = a .sizes in
+      let n = read-ring ring (z .pages) (z .slots) in
+      let half = newest-half ring fram (z .slots) n in
+      let p = passes _ e in
+      let k = neither (key-wrong (length (a .key))) (nonce-wrong (length (a .nonce))) (p .1 .1 .0) in
+      let good = not-false (good-head half) (p .1 .1 .1 .1 .1 .1 .1 .0) in
+      let old = stored-in-range (a .key) (take nonce-length (newest-record ring (z .slots) n)) half good in
+      begun-fits (power-up-stop ring fram a) _ _ _ _ _ _ e
+      (made-fits _ _ _ _ _ _ _ (length-own-tag (a .key) _) (old .open-small) (old .secret-small) (eqb-true (length (a .nonce)) nonce-length (not-false _ (k .1)))
+      (phase-fits (z .pages) (z .slots) ring (p .0) n refl) (omega arith) (page-fits (z .pages) (z .slots) ring (p .0)) (slot-fits (z .pages) (z .slots) ring (p .0)))
+
+-- ---- the job and the session of an advance
+
+abbrev Fits : Moved → Type 0
+Fits m = FitsJob (m .job) × FitsSession (m .session)
+
+no-session-fits : FitsSession no-session
+unfolding no-session
+no-session-fits = record { page = lit< tt; slot = lit< tt; latest = refl; tag = refl }
+
+module _ (ring fram : List ℕ) (a : Advances) (nonce : length (a .job .nonce) ≡ nonce-length) (tag : length (a .job .tag) ≡ tag-length) (e : advance-stop ring fram a ≡ none) where
+  abbrev r : Ready (a .job) (a .sizes) ring fram (a .staging)
+  r = ready ring fram a e
+
+  abbrev ringed : Sized (a .sizes .pages) (a .sizes .slots) ring
+  ringed = sized (a .sizes .pages) (a .sizes .slots) ring (r .ring-right)
+
+  moved-fits : (p : Phase) → phase-place p < 2 ^ 32 → FitsJob (in-phase (a .job) p)
+  unfolding in-phase
+  moved-fits p w =
+      let n = r .numbers in
+      let z = ringed .numbers in
+      let h = half-sizes fram (r .fram-right) in
+      record { place = w; half = omega arith; long = omega arith; page = omega arith; slot = omega arith; nonce = nonce; tag = tag }
+
+  new-session-fits : FitsSession (session-of (a .job))
+  unfolding session-of job-record record-of
+  new-session-fits =
+      let n = r .numbers in
+      let z = ringed .numbers in
+      record {
+        page = omega arith;
+        slot = omega arith;
+        latest = length-append (a .job .nonce) _ ∙ ap₂ (λ (x y : ℕ). x + y) nonce (length-word 1 (a .job .half));
+        tag = tag;
+      }
+
+  goes-on : (p : Phase) (ring′ fram′ : List ℕ) → phase-place p < 2 ^ 32 → Fits (going-on (a .job) p ring′ fram′)
+  unfolding going-on
+  goes-on p ring′ fram′ w = (moved-fits p w, no-session-fits)
+
+  ends : (ring′ fram′ : List ℕ) → Fits (ended (a .job) ring′ fram′)
+  unfolding ended
+  ends ring′ fram′ = (moved-fits Done (lit< tt), new-session-fits)
+
+  store-fits : (p : Phase) → a .job .phase ≡ p → Fits (store p ring fram a)
+  unfolding store after-record
+  store-fits (EraseFirst p) t = goes-on (Words 0) _ _ (lit< tt)
+  store-fits (Words w) t =
+      let n = r .numbers in
+      let h = half-sizes fram (r .fram-right) in
+      let l = word-ready r w t in
+      goes-on _ _ _ (either (λ (p : Phase). phase-place p < 2 ^ 32) (eqb (4 * (w + 1)) (a .job .length)) Record (Words (w + 1)) (lit< tt) (λ _. omega arith))
+  store-fits Record t =
+      let z = ringed .numbers in
+      let new = recorded ring (a .sizes .slots) (a .job) in
+      let before = before-laws (a .sizes .pages) (a .job .page) (z .some-pages) (r .numbers .page) .in-ring in
+      either Fits (erase-follows new (a .sizes) (a .job)) (going-on (a .job) (EraseAfter (page-before (a .sizes .pages) (a .job .page))) new fram) (ended (a .job) new fram)
+      (goes-on _ new fram (omega arith)) (λ _. ends new fram)
+  store-fits (EraseAfter p) t = ends _ fram
+  store-fits Done t = ends ring fram
+
+  advance-fits : Fits (advance ring fram a)
+  unfolding advance advance-by
+  advance-fits = rw e (store-fits (a .job .phase) refl)
+
+-- ---- what is read from any buffer has a nonce and a tag of their lengths
+
+session-tag : (b : List ℕ) → length (session-in b .tag) ≡ tag-length
+unfolding session-in no-session
+session-tag b = either (λ (s : Session). length (s .tag) ≡ tag-length) (not (eqb (length b) session-length)) no-session _ refl
+    (λ e. let l = eqb-true (length b) session-length (not-false _ e) in length-part b 24 tag-length (omega arith))
+
+job-lengths : (b : List ℕ) → (length (job-in b .nonce) ≡ nonce-length) × (length (job-in b .tag) ≡ tag-length)
+unfolding job-in no-job
+job-lengths b = either (λ (j : Job). (length (j .nonce) ≡ nonce-length) × (length (j .tag) ≡ tag-length)) (no-job-in b) no-job _ (refl, refl)
+    (λ e. let l = job-long b e in (length-part b 28 nonce-length (omega arith), length-part b 40 tag-length (omega arith)))
+
+-- ---- what the calls write reads back
+
+module _ (ring fram : List ℕ) where
+  -- the bytes of the job that a first save hands out are read as that job
+  pub first-save-back : (a : FirstSave) → first-save-stop ring fram a ≡ none → job-in (job-bytes (first-save ring fram a .job)) ≡ first-save ring fram a .job
+  first-save-back a e = job-back _ (first-save-fits ring fram a e)
+
+  -- those of a save's job, with a session read from any buffer
+  pub save-back : (a : SaveArguments) (session : List ℕ) → save-stop ring fram (saves-in a session) ≡ none
+      → job-in (job-bytes (save ring fram (saves-in a session) .job)) ≡ save ring fram (saves-in a session) .job
+  save-back a session e = job-back _ (save-fits ring fram (saves-in a session) (session-tag session) e)
+
+  -- those of a power-up's job
+  pub power-up-back : (a : PowersUp) → power-up-stop ring fram a ≡ none → job-in (job-bytes (power-up ring fram a .job)) ≡ power-up ring fram a .job
+  power-up-back a e = job-back _ (power-up-fits ring fram a e)
+
+  module _ (z : Sizes) (job staging : List ℕ) (e : advance-stop ring fram (advances-in z job staging) ≡ none) where
+    both-fit : Fits (advance ring fram (advances-in z job staging))
+    both-fit = let l = job-lengths job in advance-fits ring fram (advances-in z job staging) (l .0) (l .1) e
+
+    -- those of the job that an advance has moved on, read from any buffer
+    pub advance-job-back : job-in (job-bytes (advance ring fram (advances-in z job staging) .job)) ≡ advance ring fram (advances-in z job staging) .job
+    advance-job-back = job-back _ (both-fit .0)
+
+    -- the bytes of the session that it answers are read as that session; at 'going on' they are not written
+    pub advance-session-back : session-in (session-bytes (advance ring fram (advances-in z job staging) .session)) ≡ advance ring fram (advances-in z job staging) .session
+    advance-session-back = session-back _ (both-fit .1)
