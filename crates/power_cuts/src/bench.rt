@@ -71,7 +71,7 @@ fn run_to(first: Unit, c: Cut, ring: &mut [u8], fram: &mut [u8], staging: &mut [
 }
 
 // Cuts the power, and writes where and what that left of the store.
-fn fail(
+fn cut_power(
     unit: Unit,
     left: Left,
     seed: usize,
@@ -94,7 +94,7 @@ fn cut_unit(first: Unit, k: usize, ring: &mut [u8], fram: &mut [u8]) -> Unit {
     let left = c.left;
     let mut staging = [0u8; 60];
     let unit = run_to(first, c, ring, fram, &mut staging);
-    fail(unit, left, k, ring, fram, &staging)
+    cut_power(unit, left, k, ring, fram, &staging)
 }
 
 fn print_resumed(unit: Unit, ring: &[u8], fram: &[u8], state: &[u8]) {

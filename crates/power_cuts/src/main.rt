@@ -16,10 +16,13 @@ use print::print;
 
 fn print_heading() {
     print(
-        b"Save 12 saves 'volume 2' and, sealed, 'timer 12'. left: what was left of the word, slot or page being stored.\n",
+        b"A ring of 3 pages of 2 slots, a FRAM of 120 bytes. Save 12 saves 'volume 2' and, sealed, 'timer 12'.\n",
     );
     print(
-        b"same: byte for byte the checkpoint recorded last, by a book that is kept apart from the keeper.\n\n",
+        b"left: what the cut left of the word, slot or page being stored; '-': it fell between two calls.\n",
+    );
+    print(
+        b"same: byte for byte the checkpoint recorded last, by a book that never sees the memories.\n\n",
     );
     print(
         b"cut  call        power failed in    left     the ring then reads                resumed          restarts\n",

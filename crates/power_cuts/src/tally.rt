@@ -87,8 +87,6 @@ impl Tally {
         if self.print_differing() {
             return;
         }
-        print(
-            b"every power-up resumed the checkpoint recorded last, or stopped as it must: 6 with nothing recorded, 13 at 8 restarts\n",
-        );
+        print(b"every power-up resumed the checkpoint recorded last, or stopped as it must\n");
     }
 }
