@@ -14,6 +14,7 @@ use Rattle.checkpoint.specs.Fram.{fram-wrong}
 use Rattle.protocol.specs.Types.{Phase, EraseFirst, Words, Record, EraseAfter, Done, Origin, Save, PowerUp, Job, Progress, GoingOn, Saved, Restored, Refused}
 use Rattle.protocol.specs.Calls.{Sizes, Advances}
 use Rattle.protocol.specs.Operations.{Moved, staging-wrong, no-job, job-wrong, advance-stop, going-on, finished, ended, recorded, erase-follows, after-record, store, advance-by, advance}
+use Rattle.protocol.proofs.FreeResults.{no-job-wrong}
 use Rattle.keeper_c.specs.Bytes.{job-length, session-length, job-bytes, no-job-in, job-in}
 use Rattle.keeper_c.specs.Calls.{answer, progress-number, session-after, advances-in, advancing-left, advancing-by, advance-call-stop, advance-call}
 use Rattle.keeper_c.proofs.BytesLaws.{job-long}
@@ -81,13 +82,9 @@ bad-stop false false true d = (4, refl, refl)
 bad-stop false false false d = (4, refl, refl)
 
 -- the job that cannot be read is refused
-unread : (b : List ℕ) → no-job-in b ≡ true → job-in b ≡ no-job
+pub unread : (b : List ℕ) → no-job-in b ≡ true → job-in b ≡ no-job
 unfolding job-in
 unread b e = rw e
-
-no-job-wrong : (z : Sizes) (ring fram : List ℕ) → job-wrong no-job z ring fram ≡ true
-unfolding job-wrong no-job
-no-job-wrong z ring fram = refl
 
 unread-job : (b : List ℕ) (z : Sizes) (ring fram : List ℕ) → job-wrong (job-in b) z ring fram ≡ false → no-job-in b ≡ false
 unread-job b z ring fram e = go (no-job-in b) refl

@@ -2,6 +2,7 @@
 mod AdvanceLaws
 mod BytesLaws
 pub mod Fitting
+pub mod InPlace
 mod LookLaws
 pub mod ReadBack
 mod SealLaws

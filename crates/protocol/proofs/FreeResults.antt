@@ -19,7 +19,7 @@ use Rattle.protocol.proofs.Facts.{no-fact}
 
 -- ---- no job
 
-no-job-wrong : (z : Sizes) (ring fram : List ℕ) → job-wrong no-job z ring fram ≡ true
+pub no-job-wrong : (z : Sizes) (ring fram : List ℕ) → job-wrong no-job z ring fram ≡ true
 unfolding job-wrong no-job
 no-job-wrong z ring fram = refl
 
@@ -50,7 +50,7 @@ unfolding no-session is-record word-at number kind-of value-of
 no-record = refl
 
 module _ (ring : List ℕ) (z : Sizes) where
-  no-session-stale : ring-wrong (z .pages) (z .slots) ring ≡ false → is-blank (read-ring ring (z .pages) (z .slots)) ≡ false
+  pub no-session-stale : ring-wrong (z .pages) (z .slots) ring ≡ false → is-blank (read-ring ring (z .pages) (z .slots)) ≡ false
       → is-unreadable (read-ring ring (z .pages) (z .slots)) ≡ false → stale ring (z .slots) (read-ring ring (z .pages) (z .slots)) no-session ≡ true
   unfolding stale
   no-session-stale r b u = go (stale ring (z .slots) (read-ring ring (z .pages) (z .slots)) no-session) refl

@@ -1,0 +1,65 @@
+-- A session or a job that cannot be read gives 8 or 14 in its place in the order of stops. Assumes nothing.
+use Prim.Native.Nat.{ℕ}
+use mathlib.Core.Path.{_≡_, refl, ap, _∙_}
+use mathlib.Core.Bool.{Bool, true, false, not, _||_}
+use mathlib.Core.List.{List, [], _∷_}
+use borrow.Author.Tests.{ne-eqb}
+use lib.Dec.{eqb}
+use lib.ListN.{length}
+use Rattle.stops.specs.Stops.{first-of}
+use Rattle.ring.specs.Ring.{ring-wrong, is-blank, is-unreadable}
+use Rattle.checkpoint.specs.Fram.{fram-wrong}
+use Rattle.protocol.specs.Types.{Job, Session}
+use Rattle.protocol.specs.Calls.{Sizes, SaveArguments}
+use Rattle.protocol.specs.Operations.{key-wrong, nonce-wrong, parts-wrong, staging-wrong, stale, newest-in, no-session, save-stop, job-wrong}
+use Rattle.protocol.proofs.FreeResults.{no-session-stale, no-job-wrong}
+use Rattle.keeper_c.specs.Bytes.{session-length, no-job-in, session-in}
+use Rattle.keeper_c.specs.Calls.{saves-in, advances-in, advance-call-stop}
+use Rattle.keeper_c.proofs.AdvanceLaws.{unread}
+
+-- ---- sessions
+
+no-session-in : (b : List ℕ) → (length b ≡ session-length → ⊥) → session-in b ≡ no-session
+unfolding session-in
+no-session-in b n = rw (ne-eqb (length b) session-length n)
+
+-- the eighth row holds where it is tried, so no later row is
+rows : (a b c d e f g : Bool) (more : List (ℕ × Bool)) → (a ≡ false → e ≡ false → f ≡ false → g ≡ true)
+    → first-of ((1, a) ∷ (2, b) ∷ (3, c) ∷ (4, d) ∷ (6, e) ∷ (7, f) ∷ (8, g) ∷ more) ≡ first-of ((1, a) ∷ (2, b) ∷ (3, c) ∷ (4, d) ∷ (6, e) ∷ (7, f) ∷ (8, true) ∷ [])
+unfolding first-of
+rows true b c d e f g more w = refl
+rows false true c d e f g more w = refl
+rows false false true d e f g more w = refl
+rows false false false true e f g more w = refl
+rows false false false false true f g more w = refl
+rows false false false false false true g more w = refl
+rows false false false false false false g more w = rw (w refl refl refl)
+
+-- a save with a session buffer that is not 40 bytes stops with 1 to 4, 6 or 7 as any save, and else with 8
+pub session-in-place : (ring fram : List ℕ) (a : SaveArguments) (b : List ℕ) → (length b ≡ session-length → ⊥)
+    → let n = newest-in ring (a .sizes) in
+    save-stop ring fram (saves-in a b) ≡ first-of (
+    (1, ring-wrong (a .sizes .pages) (a .sizes .slots) ring) ∷
+    (2, fram-wrong fram) ∷
+    (3, key-wrong (length (a .key)) || nonce-wrong (length (a .nonce))) ∷
+    (4, parts-wrong (a .open-part) (a .secret) fram || staging-wrong (a .staging) fram) ∷
+    (6, is-blank n) ∷
+    (7, is-unreadable n) ∷
+    (8, true) ∷ [])
+unfolding save-stop
+session-in-place ring fram a b n =
+    rows _ _ _ _ _ _ _ _ (λ r e u. ap (λ (s : Session). stale ring (a .sizes .slots) (newest-in ring (a .sizes)) s) (no-session-in b n) ∙ no-session-stale ring (a .sizes) r e u)
+
+-- ---- jobs
+
+-- an advance of a job buffer that cannot be read stops with 1, 2 or 4 as any advance, and else with 14
+pub job-in-place : (ring fram : List ℕ) (z : Sizes) (b staging session : List ℕ) → no-job-in b ≡ true
+    → advance-call-stop ring fram (advances-in z b staging) session ≡ first-of (
+    (1, ring-wrong (z .pages) (z .slots) ring) ∷
+    (2, fram-wrong fram) ∷
+    (4, staging-wrong staging fram || not (eqb (length session) session-length)) ∷
+    (14, true) ∷ [])
+unfolding advance-call-stop
+job-in-place ring fram z b staging session e =
+    ap (λ (w : Bool). first-of ((1, ring-wrong (z .pages) (z .slots) ring) ∷ (2, fram-wrong fram) ∷ (4, staging-wrong staging fram || not (eqb (length session) session-length)) ∷ (14, w) ∷ []))
+    (ap (λ (j : Job). job-wrong j z ring fram) (unread b e) ∙ no-job-wrong z ring fram)
