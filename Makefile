@@ -1,5 +1,5 @@
 # make test   every proof, every must-fail edit, every program, and the tests in C and Rust; the last line is 'N passed, 0 failed'
-# make demo   the life of a unit
+# make demo   a unit that is cut forty times; its memories are left in target/demo
 # make hosts  the tests in C and Rust alone
 
 SHELL := /bin/bash
@@ -16,8 +16,13 @@ hosts: kit
 	@hosts/test
 
 demo: kit
-	@rt check keeper_values > /dev/null
-	@target/bin/keeper_values
+	@mkdir -p target/demo
+	rt check power_cuts ringview > /dev/null
+	@target/bin/power_cuts target/demo/ring.bin target/demo/fram.bin
+	@printf '\nThe memories as the last cut left them:\n'
+	@echo '    xxd -g 4 -c 20 target/demo/fram.bin'
+	@echo '    target/bin/ringview < target/demo/ring.bin'
+	@target/bin/ringview < target/demo/ring.bin
 
 kit:
 	@command -v rt > /dev/null || { echo "rt, the command of the Rattle kit, is missing: unpack the kit and put its bin folder on the PATH" >&2; exit 1; }
