@@ -530,9 +530,9 @@ static void print_calls(void)
     static const char *const names[CALLS] = {"save, start", "save, start and all advances", "power-up, start",
                                              "power-up, start and all advances"};
     out("\n## Saving and powering up\n\n"
-        "Microseconds, best · median. Both parts have the length named. The newest page of the ring is full, which is the most a call can\n"
-        "meet: every nonce of it is compared, the record goes to slot 0 of the next page, and the page before is erased. The memories are\n"
-        "arrays in RAM: a chip's own time for a store comes on top.\n\n| ring, parts |");
+        "Microseconds, best · median. Both parts have the length named. The newest page of the ring is full: every nonce of it is compared,\n"
+        "the record goes to slot 0 of the next page, and the page before is erased. The memories are arrays in RAM; a chip's own time for a\n"
+        "store comes on top.\n\n| ring, parts |");
     for (int call = 0; call < CALLS; call++)
         out(" %s |", names[call]);
     out("\n");
@@ -637,7 +637,7 @@ static void print_facts(const char *path, const double *load)
     out("- Machine: %.*s, %ld cores, %s %s.\n", (int)strcspn(strchr(line, ':') ? strchr(line, ':') + 2 : line, "\n"),
         strchr(line, ':') ? strchr(line, ':') + 2 : line, sysconf(_SC_NPROCESSORS_ONLN), u.sysname, u.release);
     strftime(line, sizeof line, "%Y-%m-%d %H:%M UTC", gmtime(&t));
-    out("- Date: %s. Load of the machine: %.2f at the start, %.2f at the end.\n", line, load[0], load[1]);
+    out("- Date: %s. Load of the machine, this program included: %.2f at the start, %.2f at the end.\n", line, load[0], load[1]);
     need((f = fopen(path, "r")) != NULL, path);
     while (fgets(line, sizeof line, f))
         out("- %s", line);
