@@ -1,0 +1,705 @@
+/*
+ * Times the keeper's calls, and its sealing and opening beside BearSSL, mbedTLS and OpenSSL; measures the stack that its calls use; and
+ * writes docs/PERFORMANCE.md. hosts/bench/run.sh builds and runs it: bench PAGE FACTS SIZES SYMBOLS
+ */
+#define _GNU_SOURCE
+#include "bench.h"
+#include "keeper.h"
+#include <mbedtls/gcm.h>
+#include <openssl/evp.h>
+#include <sched.h>
+#include <stdarg.h>
+#include <stdio.h>
+#include <stdlib.h>
+#include <string.h>
+#include <sys/utsname.h>
+#include <time.h>
+#include <ucontext.h>
+#include <unistd.h>
+
+#define COUNT(a) (sizeof(a) / sizeof *(a))
+
+static void need(int ok, const char *what)
+{
+    if (!ok) {
+        fprintf(stderr, "bench: %s\n", what);
+        exit(1);
+    }
+}
+
+/* ---- the implementations */
+
+uint8_t key[32], nonce[12], aad[4124], text[4096], sealed[4096], opened[4096], tag[16];
+
+static const struct size sizes[] = {
+    {"64", 64, 0}, {"1,024", 1024, 0}, {"4,096", 4096, 0}, {"4,096 + 1,052", 4096, 1052}, {"4,096 + 4,124", 4096, 4124},
+};
+
+enum { TARGET_SIZE = 3 };
+
+static void our_seal(const struct size *s)
+{
+    need(keeper_seal(key, 32, nonce, 12, aad, s->aad, text, s->text, sealed, sizeof sealed, tag, 16) == 0, "keeper_seal stopped");
+}
+
+static int our_open(const struct size *s)
+{
+    return keeper_open(key, 32, nonce, 12, aad, s->aad, sealed, s->text, tag, 16, opened, sizeof opened) == 0;
+}
+
+/* mbedTLS asks this function what the processor has; the linker's --wrap puts ours in its place. */
+int __real_mbedtls_aesni_has_support(unsigned what), __wrap_mbedtls_aesni_has_support(unsigned what);
+static int mbed_hardware;
+static mbedtls_gcm_context mbed;
+
+int __wrap_mbedtls_aesni_has_support(unsigned what)
+{
+    return mbed_hardware && __real_mbedtls_aesni_has_support(what);
+}
+
+static void mbed_key(int hardware)
+{
+    mbed_hardware = hardware;
+    need(mbedtls_gcm_setkey(&mbed, MBEDTLS_CIPHER_ID_AES, key, 256) == 0, "mbedTLS failed");
+}
+
+static void mbed_soft(void)
+{
+    mbed_key(0);
+}
+
+static void mbed_hard(void)
+{
+    mbed_key(1);
+}
+
+static void mbed_seal(const struct size *s)
+{
+    need(mbedtls_gcm_crypt_and_tag(&mbed, MBEDTLS_GCM_ENCRYPT, s->text, nonce, 12, aad, s->aad, text, sealed, 16, tag) == 0,
+         "mbedTLS failed");
+}
+
+static int mbed_open(const struct size *s)
+{
+    return mbedtls_gcm_auth_decrypt(&mbed, s->text, nonce, 12, aad, s->aad, tag, 16, sealed, opened) == 0;
+}
+
+/* What the processor has, as OpenSSL keeps it: the environment's OPENSSL_ia32cap masks these words. In [1] bit 25 is AES-NI, bit 1 PCLMUL. */
+extern unsigned OPENSSL_ia32cap_P[4];
+static EVP_CIPHER_CTX *ssl;
+
+static EVP_CIPHER_CTX *ssl_key(unsigned masked, EVP_CIPHER_CTX *c)
+{
+    static unsigned found;
+    if (!found)
+        found = OPENSSL_ia32cap_P[1];
+    OPENSSL_ia32cap_P[1] = found & ~masked;
+    if (c)
+        need(EVP_EncryptInit_ex(c, NULL, NULL, key, NULL), "OpenSSL failed");
+    else
+        need((c = EVP_CIPHER_CTX_new()) && EVP_EncryptInit_ex(c, EVP_aes_256_gcm(), NULL, key, NULL), "OpenSSL failed");
+    return c;
+}
+
+static void ssl_soft(void)
+{
+    static EVP_CIPHER_CTX *soft;
+    ssl = soft = ssl_key(1u << 25 | 1u << 1, soft);
+}
+
+static void ssl_hard(void)
+{
+    static EVP_CIPHER_CTX *hard;
+    ssl = hard = ssl_key(0, hard);
+}
+
+static void ssl_seal(const struct size *s)
+{
+    int n;
+    need(EVP_EncryptInit_ex(ssl, NULL, NULL, NULL, nonce) && EVP_EncryptUpdate(ssl, NULL, &n, aad, s->aad) &&
+             EVP_EncryptUpdate(ssl, sealed, &n, text, s->text) && EVP_EncryptFinal_ex(ssl, sealed + s->text, &n) &&
+             EVP_CIPHER_CTX_ctrl(ssl, EVP_CTRL_GCM_GET_TAG, 16, tag),
+         "OpenSSL failed");
+}
+
+static int ssl_open(const struct size *s)
+{
+    int n;
+    return EVP_DecryptInit_ex(ssl, NULL, NULL, NULL, nonce) && EVP_DecryptUpdate(ssl, NULL, &n, aad, s->aad) &&
+           EVP_DecryptUpdate(ssl, opened, &n, sealed, s->text) && EVP_CIPHER_CTX_ctrl(ssl, EVP_CTRL_GCM_SET_TAG, 16, tag) &&
+           EVP_DecryptFinal_ex(ssl, opened + s->text, &n);
+}
+
+/* key: the key schedule, where it can be called apart. */
+static const struct implementation {
+    const char *name;
+    void (*key)(void);
+    void (*seal)(const struct size *);
+    int (*open)(const struct size *);
+} all[] = {
+    {"Godwitshelf", NULL, our_seal, our_open},
+    {"BearSSL small + ctmul32", bear_small, bear_seal, bear_open},
+    {"BearSSL ct64 + ctmul64", bear_ct64, bear_seal, bear_open},
+    {"BearSSL big + ctmul32", bear_big32, bear_seal, bear_open},
+    {"BearSSL big + ctmul64", bear_big64, bear_seal, bear_open},
+    {"mbedTLS, hardware masked", mbed_soft, mbed_seal, mbed_open},
+    {"mbedTLS", mbed_hard, mbed_seal, mbed_open},
+    {"OpenSSL, hardware masked", ssl_soft, ssl_seal, ssl_open},
+    {"OpenSSL", ssl_hard, ssl_seal, ssl_open},
+#ifdef FAST
+    {"BearSSL ct64 + ctmul64, -O3", fast_ct64, fast_seal, fast_open},
+    {"BearSSL big + ctmul32, -O3", fast_big32, fast_seal, fast_open},
+#endif
+};
+
+enum { OURS = 0, CT64 = 2, BIG32 = 3, FAST_CT64 = 9, FAST_BIG32 = 10 };
+
+/* All must give the bytes that the first gives, open them, and refuse them if a bit of the tag is changed. */
+static void compare(const struct size *s)
+{
+    uint8_t first[4096], first_tag[16];
+    for (size_t i = 0; i < COUNT(all); i++) {
+        const struct implementation *m = &all[i];
+        memset(sealed, 0, sizeof sealed);
+        memset(tag, 0, sizeof tag);
+        memset(opened, 0, sizeof opened);
+        if (m->key)
+            m->key();
+        m->seal(s);
+        if (i == 0) {
+            memcpy(first, sealed, s->text);
+            memcpy(first_tag, tag, 16);
+        }
+        need(memcmp(sealed, first, s->text) == 0 && memcmp(tag, first_tag, 16) == 0, m->name);
+        if (m->key)
+            m->key();
+        need(m->open(s) && memcmp(opened, text, s->text) == 0, m->name);
+        tag[15] ^= 1;
+        if (m->key)
+            m->key();
+        need(!m->open(s), m->name);
+        tag[15] ^= 1;
+    }
+}
+
+/* ---- a unit, whose ring's newest page is full, and its calls */
+
+static uint8_t ring[16 * 32 * 512], kept_ring[sizeof ring], fram[88 + 4 * 4096], kept_fram[sizeof fram];
+static uint8_t staging[sizeof fram / 2], state[KEEPER_STATE_SIZE], job[KEEPER_JOB_SIZE], fresh[12];
+static uint8_t session[KEEPER_SESSION_SIZE], kept_session[sizeof session];
+static size_t pages, slots, ring_len, fram_len, part, secret_len, open_start, open_len;
+static uint32_t restarts;
+
+static void next_nonce(void)
+{
+    for (int i = 11; i >= 0 && ++fresh[i] == 0; i--)
+        ;
+}
+
+static uint32_t first_save(void)
+{
+    next_nonce();
+    return keeper_first_save(pages, slots, ring, ring_len, fram, fram_len, key, 32, fresh, 12, tag, 16, aad, part, text, part, staging,
+                             fram_len / 2, job, sizeof job);
+}
+
+static uint32_t save(void)
+{
+    next_nonce();
+    return keeper_save(pages, slots, ring, ring_len, fram, fram_len, key, 32, fresh, 12, session, sizeof session, aad, part, text, part,
+                       staging, fram_len / 2, job, sizeof job);
+}
+
+static uint32_t power_up(void)
+{
+    next_nonce();
+    return keeper_power_up(pages, slots, ring, ring_len, fram, fram_len, key, 32, fresh, 12, staging, fram_len / 2, state, sizeof state,
+                           job, sizeof job, &secret_len);
+}
+
+static uint32_t look(void)
+{
+    return keeper_look(pages, slots, ring, ring_len, fram, fram_len, key, 32, &restarts, &open_start, &open_len);
+}
+
+static uint32_t advance(void)
+{
+    return keeper_advance(pages, slots, ring, ring_len, fram, fram_len, staging, fram_len / 2, job, sizeof job, session, sizeof session);
+}
+
+/* Phases of a job. */
+enum { ERASE_FIRST = 1, ERASE_AFTER = 4 };
+
+static uint32_t finish(void)
+{
+    uint32_t answer;
+    do
+        answer = advance();
+    while (answer == KEEPER_GOING_ON);
+    return answer;
+}
+
+static void blank(size_t p, size_t s, size_t n)
+{
+    pages = p, slots = s, part = n;
+    ring_len = 16 * p * s;
+    fram_len = 88 + 4 * n;
+    memset(ring, 0xff, sizeof ring);
+    memset(fram, 0, sizeof fram);
+}
+
+static void keep(void)
+{
+    memcpy(kept_ring, ring, ring_len);
+    memcpy(kept_fram, fram, fram_len);
+    memcpy(kept_session, session, sizeof session);
+}
+
+static void restore(void)
+{
+    memcpy(ring, kept_ring, ring_len);
+    memcpy(fram, kept_fram, fram_len);
+    memcpy(session, kept_session, sizeof session);
+}
+
+static void fill_page(size_t p, size_t s, size_t n)
+{
+    blank(p, s, n);
+    need(first_save() == 0 && finish() == KEEPER_SAVED, "a first save stopped");
+    for (size_t i = 1; i < s; i++)
+        need(save() == 0 && finish() == KEEPER_SAVED, "a save stopped");
+    keep();
+}
+
+/* ---- times, in nanoseconds for a call: a sample for each round */
+
+enum { ROUNDS = 31 };
+
+struct times {
+    double of[ROUNDS];
+};
+
+static double now(void)
+{
+    struct timespec t;
+    clock_gettime(CLOCK_MONOTONIC, &t);
+    return 1e9 * t.tv_sec + t.tv_nsec;
+}
+
+static int rising(const void *a, const void *b)
+{
+    double x = *(const double *)a, y = *(const double *)b;
+    return (x > y) - (x < y);
+}
+
+static double best(const struct times *t)
+{
+    struct times s = *t;
+    qsort(s.of, ROUNDS, sizeof *s.of, rising);
+    return s.of[0];
+}
+
+static double median(const struct times *t)
+{
+    struct times s = *t;
+    qsort(s.of, ROUNDS, sizeof *s.of, rising);
+    return s.of[ROUNDS / 2];
+}
+
+enum { SEAL, OPEN, SEAL_ALONE, OPEN_ALONE, KINDS };
+
+static double cipher_time(const struct implementation *m, int kind, const struct size *s, unsigned calls)
+{
+    int keyed = kind == SEAL || kind == OPEN, seals = kind == SEAL || kind == SEAL_ALONE, opens = 1;
+    if (m->key)
+        m->key();
+    double start = now();
+    for (unsigned i = 0; i < calls; i++) {
+        if (m->key && keyed)
+            m->key();
+        if (seals)
+            m->seal(s);
+        else
+            opens &= m->open(s);
+    }
+    double time = (now() - start) / calls;
+    need(opens, m->name);
+    return time;
+}
+
+static struct times cipher_times[KINDS][COUNT(sizes)][COUNT(all)];
+
+static int timed(int kind, size_t i)
+{
+    return kind == SEAL || kind == OPEN || all[i].key;
+}
+
+static void time_ciphers(int round)
+{
+    for (int kind = 0; kind < KINDS; kind++)
+        for (size_t z = 0; z < COUNT(sizes); z++) {
+            compare(&sizes[z]);
+            for (size_t i = 0; i < COUNT(all); i++)
+                if (timed(kind, i)) {
+                    double once = cipher_time(&all[i], kind, &sizes[z], 3);
+                    cipher_times[kind][z][i].of[round] = cipher_time(&all[i], kind, &sizes[z], 1 + 1e6 / once);
+                }
+        }
+}
+
+static const size_t shapes[][2] = {{3, 2}, {8, 64}, {32, 512}}, parts[] = {0, 64, 1024, 4096};
+static const char *const part_names[] = {"0", "64", "1,024", "4,096"};
+
+enum { SAVE_START, SAVE, POWER_UP_START, POWER_UP, CALLS };
+
+static struct times call_times[CALLS][COUNT(shapes)][COUNT(parts)];
+
+static double call_time(int call, unsigned calls)
+{
+    double sum = 0;
+    int saves = call == SAVE_START || call == SAVE, whole = call == SAVE || call == POWER_UP;
+    for (unsigned i = 0; i < calls; i++) {
+        restore();
+        double start = now();
+        int good = (saves ? save() : power_up()) == 0;
+        if (whole)
+            good = good && finish() == (saves ? KEEPER_SAVED : KEEPER_RESTORED);
+        sum += now() - start;
+        need(good && (saves || (secret_len == part && memcmp(state, text, part) == 0)), "a call of the keeper stopped");
+    }
+    return sum / calls;
+}
+
+static void time_calls(int round)
+{
+    for (size_t h = 0; h < COUNT(shapes); h++)
+        for (size_t n = 0; n < COUNT(parts); n++) {
+            fill_page(shapes[h][0], shapes[h][1], parts[n]);
+            for (int call = 0; call < CALLS; call++) {
+                double once = call_time(call, 3);
+                call_times[call][h][n].of[round] = call_time(call, 1 + 1e6 / once);
+            }
+        }
+}
+
+/* ---- the stack: each call runs on one of its own, which is painted first */
+
+#define PAINT 0xa5a5a5a5a5a5a5a5u
+static uint64_t stack[1 << 13];
+static ucontext_t back, there;
+static uint32_t (*on_stack)(void);
+static uint32_t answered;
+
+static void enter(void)
+{
+    answered = on_stack();
+}
+
+static size_t depth(uint32_t (*call)(void))
+{
+    size_t untouched = 0;
+    for (size_t i = 0; i < COUNT(stack); i++)
+        stack[i] = PAINT;
+    on_stack = call;
+    need(getcontext(&there) == 0, "no context");
+    there.uc_stack.ss_sp = stack;
+    there.uc_stack.ss_size = sizeof stack;
+    there.uc_link = &back;
+    makecontext(&there, enter, 0);
+    need(swapcontext(&back, &there) == 0, "no context");
+    while (untouched < COUNT(stack) && stack[untouched] == PAINT)
+        untouched++;
+    need(untouched > 0, "the stack was too short");
+    return sizeof stack - 8 * untouched;
+}
+
+static uint32_t nothing(void)
+{
+    return 0;
+}
+
+static uint32_t seal_largest(void)
+{
+    our_seal(&sizes[COUNT(sizes) - 1]);
+    return 0;
+}
+
+static uint32_t open_largest(void)
+{
+    return !our_open(&sizes[COUNT(sizes) - 1]);
+}
+
+static uint32_t wipe(void)
+{
+    keeper_wipe(opened, sizeof opened);
+    return 0;
+}
+
+static struct {
+    const char *name;
+    uint32_t (*call)(void);
+    size_t bytes;
+} depths[] = {
+    {"keeper_seal", seal_largest, 0},     {"keeper_open", open_largest, 0}, {"keeper_wipe", wipe, 0},
+    {"keeper_first_save", first_save, 0}, {"keeper_save", save, 0},         {"keeper_power_up", power_up, 0},
+    {"keeper_advance", advance, 0},       {"keeper_look", look, 0},
+};
+
+/* Notes how deep a call goes, and hands on its answer. */
+static uint32_t measured(uint32_t (*call)(void))
+{
+    size_t base = depth(nothing), bytes = depth(call) - base, i = 0;
+    while (depths[i].call != call)
+        i++;
+    if (bytes > depths[i].bytes)
+        depths[i].bytes = bytes;
+    return answered;
+}
+
+static void measure_job(uint32_t (*start)(void), uint32_t last)
+{
+    uint32_t answer;
+    need(measured(start) == 0, "a start stopped");
+    do
+        answer = measured(advance);
+    while (answer == KEEPER_GOING_ON);
+    need(answer == last, "an advance stopped");
+}
+
+/* Parts of 4,096 bytes, and every phase of a job: the save erases after its record; a second one does not get to its erasing, so that
+   the power-up erases first. */
+static void measure_stack(void)
+{
+    fill_page(3, 2, 4096);
+    compare(&sizes[COUNT(sizes) - 1]);
+    need(measured(seal_largest) == 0 && measured(open_largest) == 0 && measured(wipe) == 0 && measured(look) == 0, "a call stopped");
+    measure_job(save, KEEPER_SAVED);
+    restore();
+    need(save() == 0, "a save stopped");
+    while (job[3] != ERASE_AFTER)
+        need(advance() == KEEPER_GOING_ON, "an advance stopped");
+    need(power_up() == 0 && job[3] == ERASE_FIRST, "no page was pending");
+    measure_job(power_up, KEEPER_RESTORED);
+    blank(3, 2, 4096);
+    measure_job(first_save, KEEPER_SAVED);
+}
+
+/* ---- the page */
+
+static FILE *page;
+
+static void out(const char *form, ...) __attribute__((format(printf, 1, 2)));
+static void out(const char *form, ...)
+{
+    va_list a;
+    va_start(a, form);
+    vfprintf(page, form, a);
+    va_end(a);
+}
+
+static void columns(size_t n)
+{
+    out("|---|");
+    while (n--)
+        out("---:|");
+    out("\n");
+}
+
+static void print_ciphers(int kind, const char *title)
+{
+    out("\n### %s\n\n| bytes of text (+ associated data) |", title);
+    for (size_t z = 0; z < COUNT(sizes); z++)
+        out(" %s |", sizes[z].name);
+    out("\n");
+    columns(COUNT(sizes));
+    for (size_t i = 0; i < COUNT(all); i++) {
+        if (!timed(kind, i))
+            continue;
+        out("| %s |", all[i].name);
+        for (size_t z = 0; z < COUNT(sizes); z++) {
+            const struct times *t = &cipher_times[kind][z][i];
+            const struct times *ours = &cipher_times[kind == SEAL || kind == SEAL_ALONE ? SEAL : OPEN][z][OURS];
+            out(" %.2f · %.2f · **%.2f** |", best(t) / 1e3, median(t) / 1e3, best(t) / best(ours));
+        }
+        out("\n");
+    }
+}
+
+static void print_calls(void)
+{
+    static const char *const names[CALLS] = {"save, start", "save, start and all advances", "power-up, start",
+                                             "power-up, start and all advances"};
+    out("\n## Saving and powering up\n\n"
+        "Microseconds, best · median. Both parts have the length named. The newest page of the ring is full: every nonce of it is compared,\n"
+        "the record goes to slot 0 of the next page, and the page before is erased. The memories are arrays in RAM; a chip's own time for a\n"
+        "store comes on top.\n\n| ring, parts |");
+    for (int call = 0; call < CALLS; call++)
+        out(" %s |", names[call]);
+    out("\n");
+    columns(CALLS);
+    for (size_t h = 0; h < COUNT(shapes); h++)
+        for (size_t n = 0; n < COUNT(parts); n++) {
+            out("| %zu by %zu, %s |", shapes[h][0], shapes[h][1], part_names[n]);
+            for (int call = 0; call < CALLS; call++)
+                out(" %.2f · %.2f |", best(&call_times[call][h][n]) / 1e3, median(&call_times[call][h][n]) / 1e3);
+            out("\n");
+        }
+}
+
+static void print_depths(void)
+{
+    out("\n## Stack\n\n"
+        "Bytes that a call writes below its caller's frame, arguments and callees included, at parts of 4,096 bytes and in every phase of a\n"
+        "job. Measured on a painted stack, not proved.\n\n| call | bytes |\n");
+    columns(1);
+    for (size_t i = 0; i < COUNT(depths); i++)
+        out("| `%s` | %zu |\n", depths[i].name, depths[i].bytes);
+}
+
+static struct {
+    char name[80];
+    long code, constants;
+} linked[8];
+
+static size_t linked_count;
+
+/* A line of SIZES is a name, bytes of code and bytes of constants; the first is that of the whole keeper. */
+static void read_sizes(const char *path)
+{
+    FILE *f = fopen(path, "r");
+    need(f != NULL, path);
+    while (linked_count < COUNT(linked) && fscanf(f, " %79[^|]|%ld|%ld", linked[linked_count].name, &linked[linked_count].code,
+                                                 &linked[linked_count].constants) == 3)
+        linked_count++;
+    need(linked_count > 0 && fscanf(f, " %*c") == EOF, path);
+    fclose(f);
+}
+
+static void print_sizes(void)
+{
+    out("\n## Code\n\n"
+        "Bytes for x86-64, linked with `--gc-sections`. The C library's functions are not counted. mbedTLS is left out: its GCM refers to\n"
+        "its table of all ciphers, so that Debian's archive links far more than GCM needs.\n\n"
+        "| | code | constants |\n");
+    columns(2);
+    for (size_t i = 0; i < linked_count; i++)
+        out("| %s | %ld | %ld |\n", linked[i].name, linked[i].code, linked[i].constants);
+}
+
+static void print_ratio(const char *name, size_t other, double limit)
+{
+    const struct times *t = cipher_times[SEAL][TARGET_SIZE];
+    double b = best(&t[OURS]) / best(&t[other]), m = median(&t[OURS]) / median(&t[other]);
+    out("| %s | %.2f (best), %.2f (median) | %s |\n", name, b, m, b <= limit && m <= limit ? "met" : "**not met**");
+}
+
+/* Whether an archive that asks for these symbols has no way to a heap. */
+static int no_heap(const char *symbols)
+{
+    static const char *const harmless[] = {"memcpy", "memmove", "memset", "memcmp", "bcmp"};
+    while (*symbols) {
+        size_t n = strcspn(symbols, " "), i = 0;
+        while (i < COUNT(harmless) && (strlen(harmless[i]) != n || memcmp(harmless[i], symbols, n)))
+            i++;
+        if (i == COUNT(harmless))
+            return 0;
+        symbols += n + strspn(symbols + n, " ");
+    }
+    return 1;
+}
+
+static void print_targets(const char *symbols)
+{
+    long whole = linked[0].code + linked[0].constants;
+    out("\n## Targets\n\nA target of time is met if the best and the median meet it.\n\n| target | measured | |\n|---|---|---|\n");
+    print_ratio("sealing 4,096 + 1,052 bytes: at most 0.50 of the time of BearSSL ct64 + ctmul64, Debian's build", CT64, 0.5);
+    print_ratio("sealing 4,096 + 1,052 bytes: less than the time of BearSSL big + ctmul32, Debian's build", BIG32, 1);
+#ifdef FAST
+    print_ratio("beyond the targets: the first, with BearSSL compiled with -O3", FAST_CT64, 0.5);
+    print_ratio("beyond the targets: the second, with BearSSL compiled with -O3", FAST_BIG32, 1);
+#endif
+    out("| code and constants of the whole keeper: under 24 KiB (24,576 bytes) | %ld | %s |\n", whole,
+        whole < 24576 ? "met" : "**not met**");
+    out("| no heap | the archive's only undefined symbols: %s | %s |\n", symbols, no_heap(symbols) ? "met" : "**not met**");
+}
+
+static void print_facts(const char *path, const double *load)
+{
+    char line[256] = "?";
+    struct utsname u;
+    time_t t = time(NULL);
+    FILE *f = fopen("/proc/cpuinfo", "r");
+    while (f && fgets(line, sizeof line, f) && strncmp(line, "model name", 10))
+        ;
+    if (f)
+        fclose(f);
+    uname(&u);
+    out("- Machine: %.*s, %ld cores, %s %s.\n", (int)strcspn(strchr(line, ':') ? strchr(line, ':') + 2 : line, "\n"),
+        strchr(line, ':') ? strchr(line, ':') + 2 : line, sysconf(_SC_NPROCESSORS_ONLN), u.sysname, u.release);
+    strftime(line, sizeof line, "%Y-%m-%d %H:%M UTC", gmtime(&t));
+    out("- Date: %s. Load of the machine, this program included: %.2f at the start, %.2f at the end.\n", line, load[0], load[1]);
+    need((f = fopen(path, "r")) != NULL, path);
+    while (fgets(line, sizeof line, f))
+        out("- %s", line);
+    fclose(f);
+}
+
+int main(int argc, char **argv)
+{
+    double load[2];
+    cpu_set_t one;
+    need(argc == 5, "usage: bench PAGE FACTS SIZES SYMBOLS");
+    read_sizes(argv[3]);
+    for (size_t i = 0; i < sizeof key; i++)
+        key[i] = i;
+    for (size_t i = 0; i < sizeof aad; i++)
+        aad[i] = 7 * i + 1;
+    for (size_t i = 0; i < sizeof text; i++)
+        text[i] = 5 * i + 3;
+    CPU_ZERO(&one);
+    CPU_SET(sysconf(_SC_NPROCESSORS_ONLN) - 1, &one);
+    need(sched_setaffinity(0, sizeof one, &one) == 0, "no core to pin to");
+    mbedtls_gcm_init(&mbed);
+    measure_stack();
+    getloadavg(&load[0], 1);
+    for (int round = 0; round < ROUNDS; round++) {
+        time_ciphers(round);
+        time_calls(round);
+    }
+    getloadavg(&load[1], 1);
+
+    need((page = fopen(argv[1], "w")) != NULL, argv[1]);
+    out("# Performance\n\nWritten by `make bench`. Times on another machine differ; the ratios of one run are what it is for.\n\n");
+    print_facts(argv[2], load);
+    print_targets(argv[4]);
+    out("\n## Sealing and opening\n\n"
+        "AES-256-GCM with a nonce of 12 bytes and a tag of 16. Microseconds: best · median · **ratio of the best to ours**. %d rounds in\n"
+        "which all take turns on one core, each for a millisecond, after a few calls to warm up. In each round, before the clock starts,\n"
+        "all must give the same bytes, open them, and refuse them with one bit of the tag changed.\n\n"
+        "1,052 bytes of associated data are the head and an open part of 1,024 bytes; 4,124 are those of the largest checkpoint.\n\n"
+        "What is not alike:\n\n"
+        "- **Tables and time.** Godwitshelf, BearSSL small and big, and mbedTLS with its hardware masked look up AES tables at places that\n"
+        "  depend on key and data. BearSSL ct64 does not, by design, and pays for it.\n"
+        "- **Compilers.** Debian compiles BearSSL for size (-Os), as its authors do, and Godwitshelf is compiled with -O3."
+#ifdef FAST
+        " Two\n  rows are Debian's source of BearSSL compiled with -O3 too.\n"
+#else
+        " Debian's\n  source of BearSSL could not be fetched, so no row has it compiled for speed.\n"
+#endif
+        "- **Hardware.** mbedTLS and OpenSSL use AES-NI and PCLMUL where these are not masked; where they are, OpenSSL still has code\n"
+        "  written for SSSE3.\n"
+        "- **Opening.** Godwitshelf compares the tag before it decrypts; the others decrypt before they compare it.\n"
+        "- **Set-up.** The others' contexts are made before the clock starts; mbedTLS allocates memory in each key schedule. BearSSL works\n"
+        "  in place, so its text is copied first.\n",
+        ROUNDS);
+    print_ciphers(SEAL, "Sealing, the key schedule in each call");
+    print_ciphers(OPEN, "Opening, the key schedule in each call");
+    out("\nGodwitshelf has no call without the key schedule. The others without theirs, the ratio still to its whole call:\n");
+    print_ciphers(SEAL_ALONE, "Sealing, without the key schedule");
+    print_ciphers(OPEN_ALONE, "Opening, without the key schedule");
+    print_calls();
+    print_depths();
+    print_sizes();
+    need(fclose(page) == 0, argv[1]);
+    return 0;
+}

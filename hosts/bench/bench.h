@@ -1,0 +1,17 @@
+/* What bench.c and bearssl.c share: the work, and how an implementation of AES-256-GCM does it. */
+#include <stddef.h>
+#include <stdint.h>
+
+/* Lengths of a text and of associated data. */
+struct size {
+    const char *name;
+    size_t text, aad;
+};
+
+/* Sealing turns text into sealed and tag, opening turns sealed into opened if the tag is right. */
+extern uint8_t key[32], nonce[12], aad[4124], text[4096], sealed[4096], opened[4096], tag[16];
+
+/* The pieces of bearssl.c, with BearSSL as Debian compiles it, and as run.sh does. */
+void bear_small(void), bear_ct64(void), bear_big32(void), bear_big64(void), bear_seal(const struct size *);
+void fast_ct64(void), fast_big32(void), fast_seal(const struct size *);
+int bear_open(const struct size *), fast_open(const struct size *);

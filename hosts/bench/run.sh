@@ -1,0 +1,71 @@
+#!/bin/sh
+# Builds bench.c with the keeper's archive and Debian's BearSSL, mbedTLS and OpenSSL, runs it, and writes docs/PERFORMANCE.md.
+# `make bench` runs it at the top of the repository, when target/staticlib/libkeeper_c.a is there.
+set -eu
+unset OPENSSL_ia32cap
+here=hosts/bench
+work=target/bench
+keeper=target/staticlib/libkeeper_c.a
+packages="libbearssl-dev libmbedtls-dev libssl-dev"
+mkdir -p $work
+
+missing=
+for p in $packages; do
+    dpkg-query -W -f '${Status}' $p 2>/dev/null | grep -q 'ok installed' || missing="$missing $p"
+done
+[ -z "$missing" ] || apt-get install -y -qq --no-upgrade $missing >$work/apt.log 2>&1 || { cat $work/apt.log >&2; exit 1; }
+lib=$(dirname "$(dpkg -L libbearssl-dev | grep '/libbearssl\.a$')")
+
+# BearSSL once more, compiled for speed from Debian's source, all but the functions of bearssl.c made local to one object.
+source_of_bearssl() {
+    [ -d $work/bearssl/src ] && return
+    mkdir -p $work/lists/partial $work/bearssl
+    . /etc/os-release
+    echo "deb-src http://deb.debian.org/debian $VERSION_CODENAME main" >$work/sources.list
+    set -- -qq -o Dir::Etc::sourcelist="$PWD/$work/sources.list" -o Dir::Etc::sourceparts=- -o Dir::State::lists="$PWD/$work/lists"
+    apt-get "$@" update && (cd $work && apt-get "$@" source --download-only bearssl) &&
+        tar -xf $work/bearssl_*.orig.tar.* -C $work/bearssl --strip-components=1
+}
+fast=
+if source_of_bearssl >$work/source.log 2>&1; then
+    mkdir -p $work/fast
+    from=$PWD/$work/bearssl
+    (cd $work/fast && gcc -O3 -w -I$from/inc -I$from/src -c $from/src/symcipher/aes_small_*.c $from/src/symcipher/aes_big_*.c \
+        $from/src/symcipher/aes_ct64*.c $from/src/symcipher/aes_common.c $from/src/hash/ghash_ctmul*.c $from/src/aead/gcm.c $from/src/codec/*.c)
+    gcc -std=c11 -O2 -DFAST_NAMES -c -o $work/bearssl_fast.o $here/bearssl.c
+    ld -r -o $work/fast.o $work/bearssl_fast.o $work/fast/*.o
+    objcopy --wildcard --keep-global-symbol='fast_*' $work/fast.o
+    fast="-DFAST $work/fast.o"
+fi
+
+gcc -std=c11 -O2 -Wall -Wextra -Ihosts/c -o $work/bench $here/bench.c $here/bearssl.c $fast $keeper $lib/libbearssl.a $lib/libmbedcrypto.a \
+    $lib/libcrypto.a -Wl,--wrap=mbedtls_aesni_has_support -Wl,-z,now
+
+# Bytes of code and constants that a program gets which calls the functions named.
+linked() {
+    name=$1 archive=$2
+    shift 2
+    roots=
+    for f in "$@"; do roots="$roots -u $f"; done
+    ld -static --gc-sections --unresolved-symbols=ignore-all -e "$1" $roots -o $work/linked $archive
+    size -A $work/linked | awk -v name="$name" '/^\.text/ { t += $2 } /^\.rodata|^\.data\.rel\.ro/ { r += $2 } END { print name "|" t "|" r + 0 }'
+}
+bear="br_gcm_init br_gcm_reset br_gcm_aad_inject br_gcm_flip br_gcm_run br_gcm_get_tag br_gcm_check_tag"
+{
+    linked "Godwitshelf, every call" $keeper $(nm -g --defined-only $keeper | awk '$2 == "T" { print $3 }')
+    linked "Godwitshelf, sealing and opening" $keeper keeper_seal keeper_open
+    linked "BearSSL small + ctmul32, sealing and opening" $lib/libbearssl.a $bear br_aes_small_ctr_init br_ghash_ctmul32
+    linked "BearSSL ct64 + ctmul64, sealing and opening" $lib/libbearssl.a $bear br_aes_ct64_ctr_init br_ghash_ctmul64
+    linked "BearSSL big + ctmul32, sealing and opening" $lib/libbearssl.a $bear br_aes_big_ctr_init br_ghash_ctmul32
+} >$work/sizes
+
+{
+    echo "Godwitshelf: $(rt version)."
+    for p in $packages; do dpkg-query -W -f '${Package} ${Version}\n' $p; done
+    gcc --version | head -n 1
+} >$work/facts
+symbols=$(nm -u $keeper | awk '$1 == "U" { print $2 }' | sort -u | tr '\n' ' ')
+
+$work/bench $work/PERFORMANCE.md $work/facts $work/sizes "${symbols% }"
+mv $work/PERFORMANCE.md docs/PERFORMANCE.md
+cat docs/PERFORMANCE.md
