@@ -1,4 +1,4 @@
--- The stops of the operations in the stages in which the code tries them (document 01, "Stops, by the place of checking").
+-- The stops of power-up and look in the stages in which the code tries them (document 01, "Stops, by the place of checking").
 use Prim.Native.Nat.{ℕ}
 use mathlib.Core.Path.{_≡_}
 use mathlib.Core.Bool.{Bool, not, _||_}

@@ -1,5 +1,5 @@
-// The checkpoint keeper (document 01): a session goes in by value, and a job comes out. What jobs and sessions are, and the advance, is in
-// the crate `jobs`, whose names are passed on.
+// The checkpoint keeper (document 01): power-up, look and wipe. What jobs and sessions are, the saves and the advance are in the crate
+// `jobs`, whose names are passed on.
 mod buffers;
 mod looking;
 mod resuming;

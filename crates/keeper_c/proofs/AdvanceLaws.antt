@@ -4,7 +4,6 @@ use mathlib.Core.Path.{_≡_, refl, sym, ap, _∙_}
 use mathlib.Core.Bool.{Bool, true, false, cond, _||_}
 use mathlib.Core.Option.{Option, none, some}
 use mathlib.Core.List.{List, [], _∷_}
-use native.Mathlib.Omega.{arith}
 use borrow.Author.Tests.{eq-eqb, ne-eqb}
 use lib.ListN.{length}
 use Rattle.stops.specs.Stops.{first-of, then-stop}
@@ -14,13 +13,12 @@ use Rattle.checkpoint.specs.Fram.{fram-wrong}
 use Rattle.protocol.specs.Types.{Phase, EraseFirst, Words, Record, EraseAfter, Done, Origin, Save, PowerUp, Job, Progress, GoingOn, Saved, Restored, Refused}
 use Rattle.protocol.specs.Calls.{Sizes, Advances}
 use Rattle.protocol.specs.Operations.{Moved, staging-wrong, no-job, job-wrong, advance-stop, going-on, finished, ended, recorded, erase-follows, after-record, store, advance-by, advance}
+use Rattle.protocol.proofs.Facts.{no-fact}
 use Rattle.protocol.proofs.FreeResults.{no-job-wrong}
 use Rattle.keeper_c.specs.Bytes.{job-length, session-length, job-bytes, no-job-in, job-in}
 use Rattle.keeper_c.specs.Calls.{answer, progress-number, session-after, advances-in, advancing-left, advancing-by, advance-call-stop, advance-call}
+use Rattle.keeper_c.proofs.Either.{or-false}
 use Rattle.keeper_c.proofs.BytesLaws.{job-long}
-
-no-way : {A : Type 0} → _≡_ {A = Bool} true false → A
-no-way e = let z : _≡_ {A = ℕ} 0 1 = cc in absurd (omega arith)
 
 -- not a refusal
 abbrev pub going : Progress → Bool
@@ -60,18 +58,14 @@ store-goes Done ring fram a = finish-goes (a .job .origin)
 goes-by : (S : Option ℕ) (ring fram : List ℕ) (a : Advances) → going (advance-by S ring fram a .progress) ≡ true → S ≡ none
 unfolding advance-by
 goes-by none ring fram a e = refl
-goes-by (some s) ring fram a e = no-way (sym e)
+goes-by (some s) ring fram a e = no-fact (sym e)
 
 refuses-by : (S : Option ℕ) (ring fram : List ℕ) (a : Advances) (n : ℕ) → advance-by S ring fram a .progress ≡ Refused n → S ≡ some n
 unfolding advance-by
-refuses-by none ring fram a n e = no-way (sym (store-goes (a .job .phase) ring fram a) ∙ ap going e)
+refuses-by none ring fram a n e = no-fact (sym (store-goes (a .job .phase) ring fram a) ∙ ap going e)
 refuses-by (some s) ring fram a n e = ap some (ap number-of e)
 
 -- ---- stops
-
-or-false : (a b : Bool) → b ≡ false → a || b ≡ a
-or-false true b e = refl
-or-false false b e = e
 
 -- a session buffer of another length
 bad-stop : (a b w d : Bool) → (k : ℕ) × (first-of ((1, a) ∷ (2, b) ∷ (4, w || true) ∷ (14, d) ∷ []) ≡ some k) × (then-stop (first-of ((1, a) ∷ (2, b) ∷ [])) 4 true ≡ some k)
@@ -91,7 +85,7 @@ unread-job b z ring fram e = go (no-job-in b) refl
   where
     go : (u : Bool) → no-job-in b ≡ u → u ≡ false
     go false f = refl
-    go true f = no-way (sym (no-job-wrong z ring fram) ∙ ap (λ (j : Job). job-wrong j z ring fram) (sym (unread b f)) ∙ e)
+    go true f = no-fact (sym (no-job-wrong z ring fram) ∙ ap (λ (j : Job). job-wrong j z ring fram) (sym (unread b f)) ∙ e)
 
 module _ (ring fram : List ℕ) (z : Sizes) (staging job session : List ℕ) where
   -- the call's stop 4

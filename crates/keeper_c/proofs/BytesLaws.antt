@@ -1,10 +1,10 @@
 -- Laws of jobs and sessions as bytes. Assumes nothing.
 use Prim.Native.Nat.{ℕ, _+_, _/_, _%_}
 use mathlib.Core.Path.{_≡_, refl, ap, ap₂, _∙_}
-use mathlib.Core.Bool.{Bool, true, false, not, _||_}
+use mathlib.Core.Bool.{false, not, _||_}
 use mathlib.Core.List.{List, [], _∷_, _++_}
 use native.Mathlib.Omega.{arith}
-use borrow.Author.Tests.{eqb-true, eq-eqb}
+use borrow.Author.Tests.{eqb-true, eq-eqb, not-false}
 use lib.Dec.{eqb}
 use lib.ListN.{length}
 use Rattle.octets.specs.Word.{word-at}
@@ -16,16 +16,12 @@ use Rattle.octets.proofs.Lent.{Front, front-on, front-whole}
 use Rattle.protocol.specs.Types.{Phase, Origin, Job, Session}
 use Rattle.keeper_c.specs.Bytes.{job-length, session-length, word-of, phase-number, phase-place, origin-number, job-words, job-bytes, session-bytes, phase-of, origin-of, unknown, no-job-in, job-in, session-in}
 
-pub denied : (b : Bool) → not b ≡ false → b ≡ true
-denied true e = refl
-denied false e = let z : _≡_ {A = ℕ} 0 1 = cc in absurd (omega arith)
-
 -- a buffer that holds a job is as long as one
 pub job-long : (b : List ℕ) → no-job-in b ≡ false → length b ≡ job-length
 unfolding no-job-in
 job-long b e =
     let first = neither (not (eqb (length b) job-length) || unknown 5 (word-at b 0)) (unknown 2 (word-at b 8)) e .0 in
-    eqb-true (length b) job-length (denied _ (neither (not (eqb (length b) job-length)) (unknown 5 (word-at b 0)) first .0))
+    eqb-true (length b) job-length (not-false _ (neither (not (eqb (length b) job-length)) (unknown 5 (word-at b 0)) first .0))
 
 -- a word is the low 32 bits of its number
 pub low-word : (n : ℕ) → bytes 4 (n % 4294967296) ≡ bytes 4 n

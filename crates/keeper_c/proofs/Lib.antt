@@ -1,6 +1,7 @@
 -- Laws of the calls.
 mod AdvanceLaws
 mod BytesLaws
+mod Either
 pub mod Fitting
 pub mod InPlace
 mod LookLaws

@@ -1,38 +1,23 @@
 -- From what sealing alone answers to what the call with a buffer for the tag does. Assumes nothing.
 use Prim.Native.Nat.{ℕ}
-use mathlib.Core.Path.{_≡_, refl, sym, ap, ap₂, _∙_}
-use mathlib.Core.Bool.{Bool, true, false, not, _||_}
+use mathlib.Core.Path.{_≡_, sym, ap, ap₂, _∙_}
+use mathlib.Core.Bool.{true, false, _||_}
 use mathlib.Core.Option.{Option, none, some}
-use mathlib.Core.List.{List, append-nil}
+use mathlib.Core.List.{List}
 use native.Mathlib.Omega.{arith}
-use borrow.Author.Tests.{eqb-true}
+use borrow.Author.Tests.{eqb-true, not-false}
 use lib.Dec.{eqb}
-use lib.ListN.{length, drop-of-length-le}
+use lib.ListN.{length}
 use Rattle.octets.specs.Limits.{tag-length}
 use Rattle.octets.specs.Octets.{put}
-use Rattle.octets.proofs.Laws.{put-front}
+use Rattle.octets.proofs.Lent.{over}
 use Rattle.stops.specs.Stops.{first-of}
 use Rattle.gcm.specs.Calls.{Sealing, key-wrong, nonce-wrong, tag-wrong, seal-stop, sealing-at, sealing}
 use Rattle.keeper_c.specs.Calls.{answer, sealing-left, sealing-stop, sealing-by, sealing-call}
-
-or-true : (a b : Bool) → b ≡ true → a || b ≡ true
-or-true true b e = refl
-or-true false b e = e
-
-or-false : (a b : Bool) → b ≡ false → a || b ≡ a
-or-false true b e = refl
-or-false false b e = e
-
--- bytes put over as many
-put-whole : (xs ys : List ℕ) → length xs ≡ length ys → put xs 0 ys ≡ ys
-put-whole xs ys e = rw (put-front xs ys, drop-of-length-le xs {i = length ys} (omega arith)) (append-nil ys)
+use Rattle.keeper_c.proofs.Either.{or-true, or-false}
 
 pub right-length : (n : ℕ) → tag-wrong n ≡ false → n ≡ tag-length
-right-length n e = eqb-true n tag-length (right (eqb n tag-length) e)
-  where
-    right : (b : Bool) → not b ≡ false → b ≡ true
-    right true e = refl
-    right false e = let z : _≡_ {A = ℕ} 0 1 = cc in absurd (omega arith)
+right-length n e = eqb-true n tag-length (not-false (eqb n tag-length) e)
 
 module _ (key nonce aad text out t : List ℕ) where
   -- a tag buffer of another length
@@ -80,4 +65,4 @@ module _ (key nonce aad text out t : List ℕ) where
         → sealing-left 0 out′ t′ ≡ sealing-call key nonce aad text out t
     unfolding sealing sealing-call
     sealed o T out′ t′ k l p e =
-        rw (p, put-whole t T (right-length (length t) right ∙ sym l), stops-alike) (sealed-by _ T out′ (ap (λ (q : Option ℕ). record { stop = q; tag = T; out = out′ }) (sym k) ∙ e))
+        rw (over t T t′ (omega (arith, right-length (length t) right, l)) p, stops-alike) (sealed-by _ T out′ (ap (λ (q : Option ℕ). record { stop = q; tag = T; out = out′ }) (sym k) ∙ e))

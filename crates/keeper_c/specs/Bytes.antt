@@ -69,7 +69,7 @@ unknown n x = ltb x 1 || ltb n x
 unfoldable pub no-job-in : List ℕ → Bool
 no-job-in b = not (eqb (length b) job-length) || unknown 5 (word-at b 0) || unknown 2 (word-at b 8)
 
--- in its place stands the job that no advance goes on with (protocol, proofs/FreeResults.antt)
+-- in its place stands the job beside a stop, which gives 14 in its place in the order (proofs/InPlace.antt)
 unfoldable pub job-in : List ℕ → Job
 job-in b = cond (no-job-in b) no-job record {
   phase = phase-of (word-at b 0) (word-at b 4);
@@ -82,7 +82,7 @@ job-in b = cond (no-job-in b) no-job record {
   tag = part b 40 tag-length;
 }
 
--- in the place of a session of another length stands the one that no save begins with (protocol, proofs/FreeResults.antt)
+-- in the place of a session of another length stands the one that is no unit's, which gives 8 in its place in the order (proofs/InPlace.antt)
 unfoldable pub session-in : List ℕ → Session
 session-in b = cond (not (eqb (length b) session-length)) no-session record {
   page = word-at b 0;

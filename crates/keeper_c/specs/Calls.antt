@@ -11,7 +11,7 @@ use Rattle.gcm.specs.Gcm.{encrypted, tag}
 use Rattle.gcm.specs.Calls.{key-wrong, nonce-wrong, tag-wrong, buffers-wrong}
 use Rattle.ring.specs.Ring.{ring-wrong}
 use Rattle.checkpoint.specs.Fram.{fram-wrong}
-use Rattle.protocol.specs.Types.{Job, Session, Stretch, Start, Begun, Stopped, Looked, Restarts, Unseen, Progress, GoingOn, Saved, Restored, Refused}
+use Rattle.protocol.specs.Types.{Session, Stretch, Looked, Restarts, Unseen, Progress, GoingOn, Saved, Restored, Refused}
 use Rattle.protocol.specs.Calls.{Sizes, SaveArguments, FirstSave, Saves, PowersUp, Looks, Advances}
 use Rattle.protocol.specs.Operations.{Begin, Moved, staging-wrong, first-save-stop, first-save, save-stop, save, power-up-stop, power-up, look, open-stretch, job-wrong, advance}
 use Rattle.keeper_c.specs.Bytes.{job-length, session-length, job-bytes, session-bytes, job-in, session-in}
@@ -60,19 +60,6 @@ starting-left r staging state job secret-length = record { answer = r; staging =
 -- a save has no state buffer, and restores nothing
 abbrev pub saving-left : ℕ → (staging job : List ℕ) → Starting
 saving-left r staging job = starting-left r staging [] job 0
-
-abbrev pub start-number : Start → ℕ
-start-number Begun = 0
-start-number (Stopped n) = n
-
--- what a start leaves in the buffer for its job, and behind the pointer to the secret part's length
-abbrev pub job-after : Start → Job → List ℕ → List ℕ
-job-after Begun made job = job-bytes made
-job-after (Stopped n) made job = job
-
-abbrev pub length-after : Start → ℕ → ℕ → ℕ
-length-after Begun restored stood = restored
-length-after (Stopped n) restored stood = stood
 
 -- 14 of the buffer for the job is tried after all other stops
 abbrev pub with-job : Option ℕ → List ℕ → Option ℕ
