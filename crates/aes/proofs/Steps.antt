@@ -8,9 +8,9 @@ use native.Mathlib.Omega.{arith}
 use lib.ListN.{getD}
 use Rattle.octets.specs.Table.{table}
 use Rattle.octets.proofs.Tables.{table-ext}
-use Rattle.aes.specs.Field.{_⊕_, sub-byte}
+use Rattle.sbox.specs.Field.{_⊕_, sub-byte}
 use Rattle.aes.specs.State.{sub-bytes, shift-rows, mix-column, mix-columns, add-round-key}
-use Rattle.aes.specs.Key.{word, xor-word}
+use Rattle.aes_key.specs.Key.{word, xor-word}
 use Rattle.aes.specs.Cipher.{rounds}
 
 pub sub-bytes-is : (s : List ℕ) → sub-bytes s ≡ table 16 (λ i. sub-byte (getD s i 0))

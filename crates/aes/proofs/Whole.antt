@@ -6,11 +6,11 @@ use Prim.Native.Nat.{ℕ, zero, suc, _+_, _-_, _*_, _/_, _%_, _≤_}
 use native.Mathlib.Omega.{arith}
 use lib.ListN.{length, replicate, List·getD-append}
 use Rattle.octets.proofs.Tables.{table-ext}
-use Rattle.aes.specs.Field.{_⊕_}
-use Rattle.aes.specs.State.{byte, sub-bytes, shift-rows, mix-columns, add-round-key}
-use Rattle.aes.specs.Key.{KeyLength, Nr, key-expansion, padded, round-keys}
+use Rattle.sbox.specs.Field.{_⊕_}
+use Rattle.aes.specs.State.{sub-bytes, shift-rows, mix-columns, add-round-key}
+use Rattle.aes_key.specs.Key.{byte, KeyLength, Nr, key-expansion, padded, round-keys}
 use Rattle.aes.specs.Cipher.{rounds, cipher, aes}
-use Rattle.aes.proofs.Schedule.{length-expanded}
+use Rattle.aes_key.proofs.Schedule.{length-expanded}
 
 -- a round whose words are within the schedule does not see the zeros after it
 add-padded : (s w : List ℕ) (round : ℕ) → 16 * round + 16 ≤ length w → add-round-key s (padded w) round ≡ add-round-key s w round

@@ -3,7 +3,7 @@ use mathlib.Core.List.{List}
 use Prim.Native.Nat.{ℕ, zero, suc, _-_, _/_}
 use lib.ListN.{length}
 use Rattle.aes.specs.State.{sub-bytes, shift-rows, mix-columns, add-round-key}
-use Rattle.aes.specs.Key.{Nr, key-expansion}
+use Rattle.aes_key.specs.Key.{Nr, key-expansion}
 
 -- the state s after rounds 1 to n
 unfoldable pub rounds : List ℕ → List ℕ → ℕ → List ℕ

@@ -3,11 +3,8 @@ use mathlib.Core.List.{List, [], _∷_}
 use Prim.Native.Nat.{ℕ, _+_, _*_, _/_, _%_}
 use lib.ListN.{getD}
 use Rattle.octets.specs.Table.{table}
-use Rattle.aes.specs.Field.{_⊕_, _•_, sub-byte}
-
--- the byte in row r and column c, of a state or of any list of columns
-abbrev pub byte : List ℕ → ℕ → ℕ → ℕ
-byte s r c = getD s (r + 4 * c) 0
+use Rattle.sbox.specs.Field.{_⊕_, _•_, sub-byte}
+use Rattle.aes_key.specs.Key.{byte}
 
 -- the state with f r c in row r and column c
 abbrev pub state : (ℕ → ℕ → ℕ) → List ℕ

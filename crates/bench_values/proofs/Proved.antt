@@ -3,7 +3,7 @@ use mathlib.Core.Path.{_≡_, refl}
 use lib.ListN.{length}
 use Rattle.octets.specs.Octets.{part, blank, number}
 use Rattle.octets.specs.Word.{word-at, kind-of, value-of}
-use Rattle.aes.specs.Field.{xtime, times, power, inverse, affine, turned, sub-byte, _•_}
+use Rattle.sbox.specs.Field.{xtime, times, power, inverse, affine, turned, sub-byte, _•_}
 use Rattle.ring.specs.Ring.{page-at, is-record, half-named, next-page, used-from, records, filled, alone, followed, reading, read-ring, target-page, target-slot}
 use Rattle.checkpoint.specs.Checkpoint.{sealed}
 use Rattle.checkpoint.proofs.SealedLaws.{length-sealed}

@@ -7,7 +7,7 @@ use mathlib.Core.List.{List, [], _∷_, _++_, map}
 use lib.ListN.{length, replicate}
 use Rattle.octets.specs.Limits.{slot-length, key-length, nonce-length, tag-length}
 use Rattle.octets.specs.Octets.{erased}
-use Rattle.aes.specs.Field.{xtime, sub-byte}
+use Rattle.sbox.specs.Field.{xtime, sub-byte}
 use Rattle.ring.specs.Ring.{Newest, Blank, Unreadable, At, AtPending, is-record, half-named, read-ring, target-page, target-slot}
 use Rattle.checkpoint.specs.Checkpoint.{Checkpoint, sealed}
 use Rattle.protocol.specs.Journal.{Journal, stores-of}

@@ -1,7 +1,7 @@
 // Sealing and checking under a key that serves once: what is made of the key is overwritten before the call returns.
 use super::half::good_tag;
 use super::staging::seal;
-use aes::key::expand_key;
+use aes::expand_key;
 use aes::table::round_table;
 use gcm::tag::hash_steps;
 use gcm::tag::wipe_steps;

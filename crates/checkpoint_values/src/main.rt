@@ -1,5 +1,5 @@
 // Prints sealed checkpoints of several sizes in both halves of a FRAM image, then how each reads, and how a half reads that was changed.
-use aes::key::expand_key;
+use aes::expand_key;
 use aes::table::round_table;
 use checkpoint::half::good_tag;
 use checkpoint::half::open_part;

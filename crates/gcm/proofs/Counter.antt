@@ -15,7 +15,7 @@ use Rattle.octets.specs.Octets.{part}
 use Rattle.octets.specs.Table.{table}
 use Rattle.octets.proofs.Laws.{getD-part}
 use Rattle.octets.proofs.Tables.{length-table, getD-table, is-table}
-use Rattle.aes.specs.Field.{_⊕_}
+use Rattle.sbox.specs.Field.{_⊕_}
 use Rattle.gcm.specs.Gcm.{blocks, CB, add-bytes, GCTRᵢ, GCTR}
 
 -- ---- adding a number twice

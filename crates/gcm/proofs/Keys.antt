@@ -8,7 +8,7 @@ use lib.Seq.{take-at}
 use Rattle.octets.specs.Limits.{key-length}
 use Rattle.octets.specs.Octets.{put}
 use Rattle.octets.proofs.Laws.{put-front}
-use Rattle.aes.specs.Key.{KeyLength, round-keys}
+use Rattle.aes_key.specs.Key.{KeyLength, round-keys}
 use Rattle.aes.specs.Cipher.{cipher, aes}
 use Rattle.aes.proofs.Whole.{aes-is}
 use Rattle.gcm.specs.Gcm.{AE-text, AE-tag, encrypted, tag}

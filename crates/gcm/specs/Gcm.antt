@@ -7,7 +7,7 @@ use Prim.Native.Nat.{ℕ, zero, suc, _+_, _-_, _*_, _/_, _%_, _^_}
 use lib.ListN.{length, getD, take, replicate}
 use Rattle.octets.specs.Octets.{part, same, number, bytes}
 use Rattle.octets.specs.Table.{table}
-use Rattle.aes.specs.Field.{_⊕_}
+use Rattle.sbox.specs.Field.{_⊕_}
 use Rattle.aes.specs.Cipher.{aes}
 use Rattle.gcm.specs.Ghash.{GHASH}
 

@@ -4,7 +4,7 @@ use mathlib.Core.List.{List}
 use Prim.Native.Nat.{ℕ, zero, suc, _-_, _*_, _/_, _%_, _^_}
 use lib.ListN.{length}
 use Rattle.octets.specs.Octets.{number}
-use Rattle.aes.specs.Field.{_⊕_}
+use Rattle.sbox.specs.Field.{_⊕_}
 
 infixl 70 _•_
 -- a, with b added if the bit is 1

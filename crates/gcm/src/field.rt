@@ -3,7 +3,7 @@
 ghost use mathlib.Core.Path.{_≡_};
 ghost use Prim.Native.Nat.{ℕ, _+_, _-_, _/_, _%_, _*_, _^_, _<_, _≤_};
 ghost use lib.ListN.{getD};
-ghost use Rattle.aes.specs.Field.{_⊕_};
+ghost use Rattle.sbox.specs.Field.{_⊕_};
 ghost use Rattle.gcm.specs.Ghash.{add-if, bit, halved, Zᵢ, _•_};
 ghost use Rattle.gcm.specs.Steps.{words, value, Steps};
 

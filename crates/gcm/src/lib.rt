@@ -5,7 +5,7 @@ mod field;
 mod ghash;
 pub mod tag;
 
-use aes::key::expand_key;
+use aes::expand_key;
 use aes::table::round_table;
 use counter_mode::encrypt;
 use octets::fill;

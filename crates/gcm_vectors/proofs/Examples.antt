@@ -6,9 +6,9 @@ use Prim.Native.Nat.{ℕ, zero, suc, _+_, _*_}
 use native.Mathlib.Nat.{zero-add, add-suc, suc-add}
 use lib.ListN.{replicate}
 use Rattle.octets.specs.Octets.{part, number, bytes}
-use Rattle.aes.specs.Field.{_⊕_, xtime, times, _•_ as _·_, power, inverse, turned, affine, sub-byte}
+use Rattle.sbox.specs.Field.{_⊕_, xtime, times, _•_ as _·_, power, inverse, turned, affine, sub-byte}
 use Rattle.aes.specs.State.{sub-bytes, mix-column, mix-columns, add-round-key}
-use Rattle.aes.specs.Key.{x-power, temp, next-word, expanded, key-expansion}
+use Rattle.aes_key.specs.Key.{x-power, temp, next-word, expanded, key-expansion}
 use Rattle.aes.specs.Cipher.{rounds, cipher, aes}
 use Rattle.gcm.specs.Ghash.{add-if, bit, halved, Vᵢ, Zᵢ, _•_, Yᵢ, hashed, GHASH}
 use Rattle.gcm.specs.Gcm.{inc32, CB, add-bytes, GCTRᵢ, GCTR, hash-subkey, J0, AE-text, padded, lengths, hash-input, AE-tag, encrypted, tag}

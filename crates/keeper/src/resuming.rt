@@ -3,7 +3,7 @@
 use crate::looking::see_half;
 use crate::types::Looked;
 use crate::types::PoweredUp;
-use aes::key::expand_key;
+use aes::expand_key;
 use aes::table::round_table;
 use checkpoint::fram::half_at;
 use checkpoint::half::Head;

@@ -4,7 +4,7 @@ use mathlib.Core.Path.{_≡_, refl, sym, _∙_}
 use Prim.Native.Nat.{_-_}
 use borrow.Author.Needs.{needs}
 use lib.ListN.{getD}
-use Rattle.aes.specs.Field.{sub-byte}
+use Rattle.sbox.specs.Field.{sub-byte}
 use Rattle.octets.proofs.Tables.{Filled, fill-none, fill-more, fill-all}
 use Rattle.aes.proofs.Steps.{sub-bytes-is}
 use Rattle.aes.proofs.cipher.sub_bytes.Statement.{statement}

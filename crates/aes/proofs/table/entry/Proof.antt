@@ -1,7 +1,7 @@
 -- `aes::table::entry` meets its contract: 02 • b is xtime b, and 03 • b is xtime b ⊕ b.
 -- Assumes nothing.
 use borrow.Author.Needs.{needs}
-use Rattle.aes.proofs.FieldLaws.{twice, thrice}
+use Rattle.sbox.proofs.FieldLaws.{twice, thrice}
 use Rattle.aes.proofs.table.entry.Statement.{statement}
 use Rattle.aes.proofs.table.entry.Tie as tie
 

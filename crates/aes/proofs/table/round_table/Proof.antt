@@ -6,7 +6,7 @@ use native.Mathlib.Omega.{arith}
 use borrow.Author.Needs.{needs}
 use lib.ListN.{getD}
 use Rattle.octets.proofs.Tables.{getD-table}
-use Rattle.aes.specs.Field.{sub-byte}
+use Rattle.sbox.specs.Field.{sub-byte}
 use Rattle.aes.specs.Word.{bytes-of, spread}
 use Rattle.octets.proofs.Tables.{Filled, fill-none, fill-more}
 use Rattle.aes.proofs.table.round_table.Statement.{statement}

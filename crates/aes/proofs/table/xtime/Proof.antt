@@ -1,7 +1,7 @@
 -- `aes::table::xtime` meets its contract: its arithmetic is the definition's.
 -- Assumes nothing.
 use borrow.Author.Needs.{needs}
-use Rattle.aes.specs.Field.{xtime}
+use Rattle.sbox.specs.Field.{xtime}
 use Rattle.aes.proofs.table.xtime.Statement.{statement}
 use Rattle.aes.proofs.table.xtime.Tie as tie
 

@@ -1,0 +1,2 @@
+-- KEYEXPANSION of FIPS 197.
+pub mod Key

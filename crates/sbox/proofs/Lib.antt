@@ -1,0 +1,2 @@
+-- Laws of the field.
+pub mod FieldLaws

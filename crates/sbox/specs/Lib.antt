@@ -1,0 +1,2 @@
+-- The field of FIPS 197, and its SBOX.
+pub mod Field
