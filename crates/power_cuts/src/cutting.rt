@@ -1,9 +1,9 @@
 // A cut into a store: what it leaves in the memories (document 01, "Runs, cuts and the book").
 use crate::plan::Left;
-use crate::values::HALF;
-use crate::values::PAGES;
-use crate::values::SLOTS;
-use crate::values::record;
+use demo_book::values::HALF;
+use demo_book::values::PAGES;
+use demo_book::values::SLOTS;
+use demo_book::values::record;
 use keeper::Job;
 use keeper::Phase;
 use octets::blank;

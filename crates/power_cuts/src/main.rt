@@ -1,13 +1,11 @@
 // A repairer's test: a unit's supply is cut forty times, and after each cut the unit powers up. Writes a line for each cut.
 mod bench;
-mod book;
 mod cutting;
 mod images;
 mod plan;
 mod print;
 mod tally;
 mod unit;
-mod values;
 
 use bench::cut_all;
 use images::last_cut;

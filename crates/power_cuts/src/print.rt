@@ -1,7 +1,7 @@
 // The columns of a line, and the tally.
 use crate::plan::Left;
-use crate::values::PAGES;
-use crate::values::SLOTS;
+use demo_book::values::PAGES;
+use demo_book::values::SLOTS;
 use keeper::Job;
 use keeper::Phase;
 use libc::STDOUT_FILENO;

@@ -3,7 +3,7 @@ use crate::plan::cut_again;
 use crate::print::print;
 use crate::print::print_count;
 use crate::unit::Unit;
-use crate::values::one_more;
+use demo_book::values::one_more;
 
 // How often the power-up resumed, found nothing recorded, sounded the alert or was cut again; the most restarts; the pages erased; after which
 // cuts something was not as the book has it.
