@@ -15,8 +15,9 @@ use Rattle.octets.specs.Octets.{part}
 use Rattle.octets.specs.Table.{table}
 use Rattle.octets.proofs.Laws.{getD-part}
 use Rattle.octets.proofs.Tables.{length-table, getD-table, is-table}
-use Rattle.aes.specs.Field.{_⊕_}
-use Rattle.gcm.specs.Gcm.{blocks, CB, add-bytes, GCTRᵢ, GCTR}
+use Rattle.ghash.specs.Ghash.{_⊕_}
+use Rattle.ghash.specs.Input.{blocks}
+use Rattle.gcm.specs.Gcm.{CB, add-bytes, GCTRᵢ, GCTR}
 
 -- ---- adding a number twice
 

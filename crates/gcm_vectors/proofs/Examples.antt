@@ -10,8 +10,9 @@ use Rattle.aes.specs.Field.{_⊕_, xtime, times, _•_ as _·_, power, inverse,
 use Rattle.aes.specs.State.{sub-bytes, mix-column, mix-columns, add-round-key}
 use Rattle.aes.specs.Key.{x-power, temp, next-word, expanded, key-expansion}
 use Rattle.aes.specs.Cipher.{rounds, cipher, aes}
-use Rattle.gcm.specs.Ghash.{add-if, bit, halved, Vᵢ, Zᵢ, _•_, Yᵢ, hashed, GHASH}
-use Rattle.gcm.specs.Gcm.{inc32, CB, add-bytes, GCTRᵢ, GCTR, hash-subkey, J0, AE-text, padded, lengths, hash-input, AE-tag, encrypted, tag}
+use Rattle.ghash.specs.Ghash.{add-if, bit, halved, Vᵢ, Zᵢ, _•_, Yᵢ, hashed, GHASH}
+use Rattle.ghash.specs.Input.{padded, lengths, hash-input}
+use Rattle.gcm.specs.Gcm.{inc32, CB, add-bytes, GCTRᵢ, GCTR, hash-subkey, J0, AE-text, AE-tag, encrypted, tag}
 
 K : List ℕ
 K = bytes 32 0xfeffe9928665731c6d6a8f9467308308feffe9928665731c6d6a8f9467308308
