@@ -6,9 +6,10 @@ use Prim.Native.Nat.{ℕ, zero, suc, _+_, _*_, _/_, _%_, _-_, _<_}
 use native.Mathlib.Nat.{add-zero}
 use native.Mathlib.Omega.{arith}
 use lib.ListN.{getD}
+use Rattle.octets.specs.Octets.{_⊕_}
 use Rattle.octets.specs.Table.{table}
 use Rattle.octets.proofs.Tables.{table-ext}
-use Rattle.sbox.specs.Field.{_⊕_, sub-byte}
+use Rattle.sbox.specs.Field.{sub-byte}
 use Rattle.aes.specs.State.{sub-bytes, shift-rows, mix-column, mix-columns, add-round-key}
 use Rattle.aes_key.specs.Key.{word, xor-word}
 use Rattle.aes.specs.Cipher.{rounds}

@@ -5,8 +5,8 @@ use mathlib.Core.List.{List}
 use Prim.Native.Nat.{ℕ, zero, suc, _+_, _-_, _*_, _/_, _%_, _≤_}
 use native.Mathlib.Omega.{arith}
 use lib.ListN.{length, replicate, List·getD-append}
+use Rattle.octets.specs.Octets.{_⊕_}
 use Rattle.octets.proofs.Tables.{table-ext}
-use Rattle.sbox.specs.Field.{_⊕_}
 use Rattle.aes.specs.State.{sub-bytes, shift-rows, mix-columns, add-round-key}
 use Rattle.aes_key.specs.Key.{byte, KeyLength, Nr, key-expansion, padded, round-keys}
 use Rattle.aes.specs.Cipher.{rounds, cipher, aes}

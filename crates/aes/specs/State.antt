@@ -2,8 +2,9 @@
 use mathlib.Core.List.{List, [], _∷_}
 use Prim.Native.Nat.{ℕ, _+_, _*_, _/_, _%_}
 use lib.ListN.{getD}
+use Rattle.octets.specs.Octets.{_⊕_}
 use Rattle.octets.specs.Table.{table}
-use Rattle.sbox.specs.Field.{_⊕_, _•_, sub-byte}
+use Rattle.sbox.specs.Field.{_•_, sub-byte}
 use Rattle.aes_key.specs.Key.{byte}
 
 -- the state with f r c in row r and column c

@@ -6,8 +6,9 @@ use mathlib.Core.Bool.{cond, _&&_}
 use Prim.Native.Nat.{ℕ, zero, suc, _+_, _-_, _*_, _/_, _%_, _≤_}
 use lib.Dec.{eqb, ltb}
 use lib.ListN.{length, getD, replicate}
+use Rattle.octets.specs.Octets.{_⊕_}
 use Rattle.octets.specs.Table.{table}
-use Rattle.sbox.specs.Field.{_⊕_, xtime, sub-byte}
+use Rattle.sbox.specs.Field.{xtime, sub-byte}
 
 -- the byte in row r and column c of a list of columns, which have four bytes each: a schedule's columns are its words
 abbrev pub byte : List ℕ → ℕ → ℕ → ℕ

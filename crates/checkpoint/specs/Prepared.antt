@@ -3,8 +3,8 @@ use Prim.Native.Nat.{ℕ, _<_}
 use mathlib.Core.List.{List}
 use Rattle.aes.specs.Word.{RoundTable}
 use Rattle.aes.specs.Cipher.{cipher}
+use Rattle.ghash.specs.Steps.{Steps}
 use Rattle.gcm.specs.Gcm.{hash-subkey}
-use Rattle.gcm.specs.Steps.{Steps}
 use Rattle.checkpoint.specs.Checkpoint.{Checkpoint}
 
 abbrev pub Prepared : (table keys steps : List ℕ) → ℕ → Type 0

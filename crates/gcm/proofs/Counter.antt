@@ -11,12 +11,12 @@ use lib.Dec.{ltb, lit<}
 use lib.ListN.{length, getD, length-append, length-take, length-drop, List·getD-append}
 use lib.Seq.{getD-append-add, ext-getD}
 use borrow.Author.Tests.{ltb-true, ltb-false}
-use Rattle.octets.specs.Octets.{part}
+use Rattle.octets.specs.Octets.{part, _⊕_}
 use Rattle.octets.specs.Table.{table}
 use Rattle.octets.proofs.Laws.{getD-part}
 use Rattle.octets.proofs.Tables.{length-table, getD-table, is-table}
-use Rattle.sbox.specs.Field.{_⊕_}
-use Rattle.gcm.specs.Gcm.{blocks, CB, add-bytes, GCTRᵢ, GCTR}
+use Rattle.ghash.specs.Input.{blocks}
+use Rattle.gcm.specs.Gcm.{CB, add-bytes, GCTRᵢ, GCTR}
 
 -- ---- adding a number twice
 

@@ -9,8 +9,9 @@ use native.Mathlib.Omega.{arith}
 use Rattle.octets.specs.Octets.{same, bytes}
 use Rattle.octets.proofs.Laws.{same-refl, same-equal, equal-same, unequal-same}
 use Rattle.octets.proofs.Numbers.{length-bytes}
-use Rattle.gcm.specs.Ghash.{GHASH}
-use Rattle.gcm.specs.Gcm.{hash-subkey, J0, inc32, hash-input, AE-text, AE-tag, GCM-AE, GCM-AD, encrypted, tag}
+use Rattle.ghash.specs.Ghash.{GHASH}
+use Rattle.ghash.specs.Input.{hash-input}
+use Rattle.gcm.specs.Gcm.{hash-subkey, J0, inc32, AE-text, AE-tag, GCM-AE, GCM-AD, encrypted, tag}
 use Rattle.gcm.proofs.Counter.{length-GCTR, GCTR-twice}
 
 module _ (CIPH : List ℕ → List ℕ) (IV : List ℕ) where

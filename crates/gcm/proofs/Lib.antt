@@ -2,9 +2,6 @@
 pub mod Counter
 pub mod Blocks
 pub mod Laws
-pub mod Words
-pub mod Product
-pub mod Hashing
 pub mod Keys
 pub mod Checks
 pub mod Outcomes

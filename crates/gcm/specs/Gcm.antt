@@ -3,21 +3,17 @@
 use mathlib.Core.Bool.{cond}
 use mathlib.Core.List.{List, [], _∷_, _++_}
 use mathlib.Core.Option.{Option, none, some}
-use Prim.Native.Nat.{ℕ, zero, suc, _+_, _-_, _*_, _/_, _%_, _^_}
+use Prim.Native.Nat.{ℕ, zero, suc, _+_, _*_, _%_, _^_}
 use lib.ListN.{length, getD, take, replicate}
-use Rattle.octets.specs.Octets.{part, same, number, bytes}
+use Rattle.octets.specs.Octets.{part, same, number, bytes, _⊕_}
 use Rattle.octets.specs.Table.{table}
-use Rattle.sbox.specs.Field.{_⊕_}
 use Rattle.aes.specs.Cipher.{aes}
-use Rattle.gcm.specs.Ghash.{GHASH}
+use Rattle.ghash.specs.Ghash.{GHASH}
+use Rattle.ghash.specs.Input.{blocks, hash-input}
 
 -- inc_32: the last 32 bits of a block count up
 unfoldable pub inc32 : List ℕ → List ℕ
 inc32 X = take 12 X ++ bytes 4 ((number X 12 4 + 1) % 2 ^ 32)
-
--- how many blocks n bytes take, of which the last may be shorter
-abbrev pub blocks : ℕ → ℕ
-blocks n = (n + 15) / 16
 
 -- Algorithm 3. The counter blocks: CB_1 is `CB ICB 0`
 unfoldable pub CB : List ℕ → ℕ → List ℕ
@@ -49,18 +45,7 @@ J0 IV = IV ++ (0 ∷ 0 ∷ 0 ∷ 1 ∷ [])
 unfoldable pub AE-text : (List ℕ → List ℕ) → List ℕ → List ℕ → List ℕ
 AE-text CIPH IV P = GCTR CIPH (inc32 (J0 IV)) P
 
--- step 4: s with zeros behind it up to whole blocks
-unfoldable pub padded : List ℕ → List ℕ
-padded s = s ++ replicate (16 * blocks (length s) - length s) 0
-
--- step 5: the lengths of A and C in bits, at 64 bits each, and what is hashed
-unfoldable pub lengths : List ℕ → List ℕ → List ℕ
-lengths A C = bytes 8 (8 * length A) ++ bytes 8 (8 * length C)
-
-unfoldable pub hash-input : List ℕ → List ℕ → List ℕ
-hash-input A C = padded A ++ (padded C ++ lengths A C)
-
--- steps 5 and 6: the tag T of A and C
+-- steps 4 to 6: the tag T of A and C
 unfoldable pub AE-tag : (List ℕ → List ℕ) → List ℕ → List ℕ → List ℕ → List ℕ
 AE-tag CIPH IV A C = GCTR CIPH (J0 IV) (bytes 16 (GHASH (hash-subkey CIPH) (hash-input A C)))
 

@@ -1,5 +1,3 @@
--- The definitions of NIST SP 800-38D, "Galois/Counter Mode (GCM)", and what the calls of this crate answer.
-pub mod Ghash
+-- Counter mode and GCM of NIST SP 800-38D, "Galois/Counter Mode (GCM)", over its hash in ghash/specs, and what the calls of this crate answer.
 pub mod Gcm
-pub mod Steps
 pub mod Calls

@@ -1,8 +1,6 @@
 // AES-256-GCM (SP 800-38D), with nonces of 12 bytes and tags of 16: sealing and opening alone, and their pieces for a caller that
 // makes its key schedule once.
 pub mod counter_mode;
-mod field;
-mod ghash;
 pub mod tag;
 
 use aes::expand_key;

@@ -2,11 +2,11 @@
 use super::counter_mode::TAG_COUNT;
 use super::counter_mode::counter_block;
 use super::counter_mode::gctr;
-use super::field::steps;
-use super::ghash::block_at;
-use super::ghash::block_bytes;
-use super::ghash::ghash;
 use aes::cipher::encrypt_block;
+use ghash::blocks::block_at;
+use ghash::blocks::block_bytes;
+use ghash::field::steps;
+use ghash::ghash;
 use octets::fill;
 ghost use mathlib.Core.Path.{_≡_};
 ghost use Prim.Native.Nat.{_^_, _<_};
@@ -14,8 +14,8 @@ ghost use lib.ListN.{length, replicate};
 ghost use Rattle.octets.specs.Limits.{nonce-length};
 ghost use Rattle.aes.specs.Word.{RoundTable};
 ghost use Rattle.aes.specs.Cipher.{cipher};
+ghost use Rattle.ghash.specs.Steps.{Steps};
 ghost use Rattle.gcm.specs.Gcm.{hash-subkey, AE-tag};
-ghost use Rattle.gcm.specs.Steps.{Steps};
 
 // The steps of the hash subkey, made once per key. It needs the table of aes::round_table and the round keys of aes::expand_key, of so
 // many rounds.

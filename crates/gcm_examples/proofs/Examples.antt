@@ -5,13 +5,14 @@ use mathlib.Core.Path.{_≡_, refl, sym, ap, _∙_}
 use Prim.Native.Nat.{ℕ, zero, suc, _+_, _*_}
 use native.Mathlib.Nat.{zero-add, add-suc, suc-add}
 use lib.ListN.{replicate}
-use Rattle.octets.specs.Octets.{part, number, bytes}
-use Rattle.sbox.specs.Field.{_⊕_, xtime, times, _•_ as _·_, power, inverse, turned, affine, sub-byte}
+use Rattle.octets.specs.Octets.{part, number, bytes, _⊕_}
+use Rattle.sbox.specs.Field.{xtime, times, _•_ as _·_, power, inverse, turned, affine, sub-byte}
 use Rattle.aes.specs.State.{sub-bytes, mix-column, mix-columns, add-round-key}
 use Rattle.aes_key.specs.Key.{x-power, temp, next-word, expanded, key-expansion}
 use Rattle.aes.specs.Cipher.{rounds, cipher, aes}
-use Rattle.gcm.specs.Ghash.{add-if, bit, halved, Vᵢ, Zᵢ, _•_, Yᵢ, hashed, GHASH}
-use Rattle.gcm.specs.Gcm.{inc32, CB, add-bytes, GCTRᵢ, GCTR, hash-subkey, J0, AE-text, padded, lengths, hash-input, AE-tag, encrypted, tag}
+use Rattle.ghash.specs.Ghash.{add-if, bit, halved, Vᵢ, Zᵢ, _•_, Yᵢ, hashed, GHASH}
+use Rattle.ghash.specs.Input.{padded, lengths, hash-input}
+use Rattle.gcm.specs.Gcm.{inc32, CB, add-bytes, GCTRᵢ, GCTR, hash-subkey, J0, AE-text, AE-tag, encrypted, tag}
 
 K : List ℕ
 K = bytes 32 0xfeffe9928665731c6d6a8f9467308308feffe9928665731c6d6a8f9467308308

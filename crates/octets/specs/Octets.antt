@@ -4,6 +4,12 @@ use mathlib.Core.Bool.{Bool, true, false, _&&_}
 use mathlib.Core.List.{List, [], _∷_, _++_}
 use lib.ListN.{length, take, drop, getD, replicate}
 use lib.Dec.{eqb}
+use lib.Bits.{bitXor}
+
+infixr 65 _⊕_
+-- exclusive or, of two bytes or of two blocks
+abbrev pub _⊕_ : ℕ → ℕ → ℕ
+a ⊕ b = bitXor a b
 
 -- n bytes from offset i
 unfoldable pub part : List ℕ → ℕ → ℕ → List ℕ

@@ -6,9 +6,10 @@ use Prim.Native.Nat.{ℕ, zero, suc, _<_}
 use native.Mathlib.Nat.{not-suc-le-zero, le-of-suc-le-suc}
 use lib.Bits.{xor-zero-r}
 use lib.ListN.{getD, replicate, getD-replicate}
+use Rattle.octets.specs.Octets.{_⊕_}
 use Rattle.octets.specs.Table.{table}
 use Rattle.octets.proofs.Tables.{getD-table}
-use Rattle.sbox.specs.Field.{_⊕_, xtime, times, _•_, power, inverse, turned, affine, sub-byte}
+use Rattle.sbox.specs.Field.{xtime, times, _•_, power, inverse, turned, affine, sub-byte}
 
 -- FIPS 197, section 4.2 and figure 7
 pub product : 0x57 • 0x13 ≡ 0xfe

@@ -4,7 +4,7 @@ use mathlib.Core.Path.{_≡_, refl, sym, _∙_}
 use Prim.Native.Nat.{_+_, _-_, _*_}
 use borrow.Author.Needs.{needs}
 use lib.ListN.{getD}
-use Rattle.sbox.specs.Field.{_⊕_}
+use Rattle.octets.specs.Octets.{_⊕_}
 use Rattle.octets.proofs.Tables.{Filled, fill-none, fill-more, fill-all}
 use Rattle.aes.proofs.Steps.{add-round-key-is}
 use Rattle.aes.proofs.cipher.add_round_key.Statement.{statement}

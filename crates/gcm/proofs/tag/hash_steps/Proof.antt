@@ -5,8 +5,8 @@ use Prim.Native.Nat.{ℕ}
 use borrow.Author.Needs.{needs}
 use lib.ListN.{replicate}
 use Rattle.octets.specs.Octets.{number}
+use Rattle.ghash.specs.Steps.{Steps}
 use Rattle.gcm.specs.Gcm.{hash-subkey}
-use Rattle.gcm.specs.Steps.{Steps}
 use Rattle.gcm.proofs.tag.hash_steps.Statement.{statement}
 use Rattle.gcm.proofs.tag.hash_steps.Tie as tie
 

@@ -7,8 +7,9 @@ use borrow.Author.Needs.{needs}
 use lib.ListN.{length, drop-of-length-le}
 use Rattle.octets.specs.Octets.{put, bytes}
 use Rattle.octets.proofs.Laws.{put-front}
-use Rattle.gcm.specs.Ghash.{GHASH}
-use Rattle.gcm.specs.Gcm.{hash-subkey, GCTR, hash-input, AE-tag}
+use Rattle.ghash.specs.Ghash.{GHASH}
+use Rattle.ghash.specs.Input.{hash-input}
+use Rattle.gcm.specs.Gcm.{hash-subkey, GCTR, AE-tag}
 use Rattle.gcm.proofs.Blocks.{J0-count}
 use Rattle.gcm.proofs.Laws.{length-AE-tag}
 use Rattle.gcm.proofs.tag.tag_of.Statement.{statement}
