@@ -16,6 +16,7 @@ use Rattle.ring.proofs.SizeLaws.{sized, page-ends, slot-ends}
 use Rattle.checkpoint.specs.Fram.{fram-wrong, half-length}
 use Rattle.checkpoint.specs.Checkpoint.{empty-length}
 use Rattle.checkpoint.proofs.FramLaws.{half-within}
+use Rattle.memories.specs.Stages.{of-memories}
 use Rattle.protocol.specs.Types.{Phase, EraseFirst, Words, EraseAfter, Job}
 use Rattle.protocol.specs.Calls.{Sizes, Advances}
 use Rattle.protocol.specs.Operations.{staging-wrong, phase-wrong, job-wrong, advance-stop, Moved, store}
@@ -107,19 +108,19 @@ module _ {j : Job} {z : Sizes} {ring fram staging : List ℕ} (r : Ready j z rin
 -- ---- the stops in two stages: those of the memories, then those of the job
 
 module _ (ring fram : List ℕ) (a : Advances) where
-  abbrev of-memories : List (ℕ × Bool)
-  of-memories = (1, ring-wrong (a .sizes .pages) (a .sizes .slots) ring) ∷ (2, fram-wrong fram) ∷ []
+  abbrev memory-lines : List (ℕ × Bool)
+  memory-lines = of-memories (a .sizes .pages) (a .sizes .slots) ring fram
 
-  abbrev of-job : List (ℕ × Bool)
-  of-job = (4, staging-wrong (a .staging) fram) ∷ (14, job-wrong (a .job) (a .sizes) ring fram) ∷ []
+  abbrev job-lines : List (ℕ × Bool)
+  job-lines = (4, staging-wrong (a .staging) fram) ∷ (14, job-wrong (a .job) (a .sizes) ring fram) ∷ []
 
-  pub memories-stop : (s : ℕ) → first-of of-memories ≡ some s → advance-stop ring fram a ≡ some s
+  pub memories-stop : (s : ℕ) → first-of memory-lines ≡ some s → advance-stop ring fram a ≡ some s
   unfolding advance-stop tried
-  memories-stop s e = first-append of-memories of-job e
+  memories-stop s e = first-append memory-lines job-lines e
 
-  pub memories-pass : first-of of-memories ≡ none → advance-stop ring fram a ≡ then-stop (then-stop none 4 (staging-wrong (a .staging) fram)) 14 (job-wrong (a .job) (a .sizes) ring fram)
+  pub memories-pass : first-of memory-lines ≡ none → advance-stop ring fram a ≡ then-stop (then-stop none 4 (staging-wrong (a .staging) fram)) 14 (job-wrong (a .job) (a .sizes) ring fram)
   unfolding advance-stop tried
-  memories-pass e = first-append of-memories of-job e
+  memories-pass e = first-append memory-lines job-lines e
 
 -- a phase that is known decides the store
 pub stored-by : (ring fram : List ℕ) (a : Advances) {x y : Phase} {m : Moved} → x ≡ y → m ≡ store y ring fram a → m ≡ store x ring fram a

@@ -14,8 +14,9 @@ use Rattle.stops.specs.Stops.{first-of, then-stop}
 use Rattle.stops.proofs.Laws.{tried, tried-first, first-append, one-more, passes, neither}
 use Rattle.ring.specs.Ring.{Newest, ring-wrong, read-ring, newest-record, half-named, target-page, target-slot}
 use Rattle.checkpoint.specs.Checkpoint.{part-wrong, sealed-length}
-use Rattle.checkpoint.specs.Fram.{fram-wrong, half-length}
+use Rattle.checkpoint.specs.Fram.{half-length}
 use Rattle.checkpoint.specs.Prepared.{checkpoint-of}
+use Rattle.memories.specs.Stages.{of-memories}
 use Rattle.protocol.specs.Types.{Words, Save}
 use Rattle.protocol.specs.Calls.{SaveArguments, FirstSave, Saves}
 use Rattle.protocol.specs.Operations.{key-wrong, nonce-wrong, tag-wrong, parts-wrong, staging-wrong, Begin, begin, job-of, first-checkpoint, save-checkpoint, first-save-stop, first-save, save-stop, save}
@@ -24,13 +25,13 @@ use Rattle.jobs.specs.Stages.{stopped, save-buffers, save-ring}
 -- ---- conditions tried one after the other
 
 pub buffers-tried : (ring fram : List ℕ) (a : SaveArguments) (c d : Bool) (o₂ o₃ o₄ : Option ℕ)
-    → o₂ ≡ first-of ((1, ring-wrong (a .sizes .pages) (a .sizes .slots) ring) ∷ (2, fram-wrong fram) ∷ [])
+    → o₂ ≡ first-of (of-memories (a .sizes .pages) (a .sizes .slots) ring fram)
     → c ≡ key-wrong (length (a .key)) || nonce-wrong (length (a .nonce)) → d ≡ parts-wrong (a .open-part) (a .secret) fram || staging-wrong (a .staging) fram
     → o₃ ≡ then-stop o₂ 3 c → o₄ ≡ then-stop o₃ 4 d → o₄ ≡ first-of (save-buffers ring fram a)
 buffers-tried ring fram a c d o₂ o₃ o₄ e x y f g = one-more (_ ∷ _ ∷ _ ∷ []) 4 _ d o₃ o₄ (one-more (_ ∷ _ ∷ []) 3 _ c o₂ o₃ e x f) y g
 
 pub first-tried : (ring fram : List ℕ) (a : FirstSave) (c d b : Bool) (o₂ o₃ o₄ o₅ : Option ℕ)
-    → o₂ ≡ first-of ((1, ring-wrong (a .arguments .sizes .pages) (a .arguments .sizes .slots) ring) ∷ (2, fram-wrong fram) ∷ [])
+    → o₂ ≡ first-of (of-memories (a .arguments .sizes .pages) (a .arguments .sizes .slots) ring fram)
     → c ≡ key-wrong (length (a .arguments .key)) || nonce-wrong (length (a .arguments .nonce)) || tag-wrong (length (a .starting-tag))
     → d ≡ parts-wrong (a .arguments .open-part) (a .arguments .secret) fram || staging-wrong (a .arguments .staging) fram → b ≡ blank ring
     → o₃ ≡ then-stop o₂ 3 c → o₄ ≡ then-stop o₃ 4 d → o₅ ≡ then-stop o₄ 5 (not b) → o₅ ≡ first-save-stop ring fram a

@@ -1,10 +1,10 @@
 -- The stops of the saves in the stages in which the code tries them (document 01, "Stops, by the place of checking").
 use Prim.Native.Nat.{ℕ}
 use mathlib.Core.Bool.{Bool, _||_}
-use mathlib.Core.List.{List, [], _∷_}
+use mathlib.Core.List.{List, [], _∷_, _++_}
 use lib.ListN.{length}
-use Rattle.ring.specs.Ring.{Newest, ring-wrong, is-blank, is-unreadable, is-pending, nonce-used}
-use Rattle.checkpoint.specs.Fram.{fram-wrong}
+use Rattle.ring.specs.Ring.{Newest, is-blank, is-unreadable, is-pending, nonce-used}
+use Rattle.memories.specs.Stages.{of-memories}
 use Rattle.protocol.specs.Types.{Session, Stopped}
 use Rattle.protocol.specs.Calls.{SaveArguments}
 use Rattle.protocol.specs.Operations.{Begin, no-job, key-wrong, nonce-wrong, parts-wrong, staging-wrong, stale}
@@ -13,13 +13,12 @@ use Rattle.protocol.specs.Operations.{Begin, no-job, key-wrong, nonce-wrong, pa
 abbrev pub stopped : ℕ → (staging state : List ℕ) → Begin
 stopped s staging state = record { answer = Stopped s; job = no-job; secret-length = 0; staging = staging; state = state }
 
--- those of save about its buffers
+-- those of save about the memories and its buffers
 abbrev pub save-buffers : (ring fram : List ℕ) → SaveArguments → List (ℕ × Bool)
 save-buffers ring fram a =
-    (1, ring-wrong (a .sizes .pages) (a .sizes .slots) ring) ∷
-    (2, fram-wrong fram) ∷
+    of-memories (a .sizes .pages) (a .sizes .slots) ring fram ++ (
     (3, key-wrong (length (a .key)) || nonce-wrong (length (a .nonce))) ∷
-    (4, parts-wrong (a .open-part) (a .secret) fram || staging-wrong (a .staging) fram) ∷ []
+    (4, parts-wrong (a .open-part) (a .secret) fram || staging-wrong (a .staging) fram) ∷ [])
 
 -- those of save about the ring, which reads as n
 abbrev pub save-ring : (ring : List ℕ) → ℕ → Newest → Session → List ℕ → List (ℕ × Bool)

@@ -1,13 +1,13 @@
 // An advance (document 01, "What the unit calls"): the one store that a job's phase names.
 use crate::job::no_session;
-use crate::memories::check_memories;
-use crate::memories::copy_word;
 use crate::types::Advanced;
 use crate::types::Job;
 use crate::types::Origin;
 use crate::types::Phase;
 use crate::types::Progress;
+use crate::word::copy_word;
 use checkpoint::layout::EMPTY_LENGTH;
+use memories::check_memories;
 use ring::erase_page;
 use ring::page_before;
 use ring::page_is_blank;

@@ -3,14 +3,13 @@
 mod advance;
 mod job;
 mod lent;
-mod memories;
 mod saves;
 mod types;
+mod word;
 
 pub use job::no_job;
 pub use job::no_session;
 pub use lent::advance_lent;
-pub use memories::check_memories;
 pub use saves::first_save;
 pub use saves::first_save_check;
 pub use types::Advanced;

@@ -1,6 +1,5 @@
 // First save and save (document 01, "What the unit calls"): a checkpoint sealed into staging, and the job that stores it.
 use crate::job::no_job;
-use crate::memories::check_memories;
 use crate::types::Job;
 use crate::types::Origin;
 use crate::types::Phase;
@@ -13,6 +12,7 @@ use checkpoint::under::seal_under;
 use gcm::key_wrong;
 use gcm::nonce_wrong;
 use gcm::tag_wrong;
+use memories::check_memories;
 use octets::blank;
 use octets::twelve;
 use ring::Newest;

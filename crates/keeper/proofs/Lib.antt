@@ -1,5 +1,4 @@
--- Laws of the views and of the operations' conditions.
+-- Laws of the view and of power-up's conditions.
 pub mod ViewLaws
-pub mod LookLaws
 pub mod ResumeLaws
 pub mod PowerUpLaws

@@ -18,6 +18,7 @@ use Rattle.checkpoint.specs.Fram.{fram-wrong, half-length}
 use Rattle.checkpoint.specs.Half.{good-head, stored-length, stored}
 use Rattle.checkpoint.proofs.FramLaws.{fram-sizes}
 use Rattle.checkpoint.proofs.StoredLaws.{head-facts}
+use Rattle.memories.specs.Stages.{of-memories}
 use Rattle.protocol.specs.Types.{Phase, PowerUp}
 use Rattle.protocol.specs.Calls.{PowersUp}
 use Rattle.protocol.specs.Operations.{key-wrong, nonce-wrong, staging-wrong, state-wrong, Begin, begin, job-of, resumed, first-phase, newest-half, newest-checkpoint, power-up-stop, power-up}
@@ -27,7 +28,7 @@ use Rattle.keeper.specs.Stages.{power-up-buffers, power-up-ring, power-u
 -- ---- conditions tried one after the other
 
 pub buffers-tried : (ring fram : List ℕ) (a : PowersUp) (c d : Bool) (o₂ o₃ o₄ : Option ℕ)
-    → o₂ ≡ first-of ((1, ring-wrong (a .sizes .pages) (a .sizes .slots) ring) ∷ (2, fram-wrong fram) ∷ [])
+    → o₂ ≡ first-of (of-memories (a .sizes .pages) (a .sizes .slots) ring fram)
     → c ≡ key-wrong (length (a .key)) || nonce-wrong (length (a .nonce)) → d ≡ staging-wrong (a .staging) fram || state-wrong (a .state)
     → o₃ ≡ then-stop o₂ 3 c → o₄ ≡ then-stop o₃ 4 d → o₄ ≡ first-of (power-up-buffers ring fram a)
 buffers-tried ring fram a c d o₂ o₃ o₄ e x y f g = one-more (_ ∷ _ ∷ _ ∷ []) 4 _ d o₃ o₄ (one-more (_ ∷ _ ∷ []) 3 _ c o₂ o₃ e x f) y g

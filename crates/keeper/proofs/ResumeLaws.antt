@@ -58,6 +58,10 @@ module _ (key latest half nonce : List ℕ) (good : good-head half ≡ true) whe
 
 -- ---- stops 12 and 13
 
+-- a stop is not none
+pub stopped-not-none : {A : Type 0} {s : ℕ} → some s ≡ none → A
+stopped-not-none e = let z : _≡_ {A = ℕ} 0 1 = cc in absurd (omega arith)
+
 pub half-tried : (key latest half : List ℕ) (g : Bool) (r : ℕ) (o₁ o₂ : Option ℕ) → g ≡ good-tag key latest half → r ≡ stored-restarts half
     → o₁ ≡ then-stop none 12 (not g) → o₂ ≡ then-stop o₁ 13 (eqb r restart-limit) → o₂ ≡ first-of (half-lines key latest half)
 half-tried key latest half g r o₁ o₂ x y e f =

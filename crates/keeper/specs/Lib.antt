@@ -1,5 +1,4 @@
 -- What the code's values stand for.
 pub mod View
 pub mod Stages
-pub mod Seen
 pub mod Resealing

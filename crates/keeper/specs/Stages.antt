@@ -1,53 +1,40 @@
--- The stops of power-up and look in the stages in which the code tries them (document 01, "Stops, by the place of checking").
+-- The stops of power-up in the stages in which the code tries them (document 01, "Stops, by the place of checking").
 use Prim.Native.Nat.{ℕ}
 use mathlib.Core.Path.{_≡_}
 use mathlib.Core.Bool.{Bool, not, _||_}
-use mathlib.Core.List.{List, [], _∷_}
+use mathlib.Core.List.{List, [], _∷_, _++_}
 use lib.Dec.{eqb}
-use lib.ListN.{length, take}
-use Rattle.octets.specs.Limits.{nonce-length, restart-limit}
+use lib.ListN.{length}
+use Rattle.octets.specs.Limits.{restart-limit}
 use Rattle.octets.specs.Octets.{put}
-use Rattle.ring.specs.Ring.{Newest, ring-wrong, is-blank, is-unreadable, nonce-used, half-named}
+use Rattle.ring.specs.Ring.{Newest, is-blank, is-unreadable, nonce-used, half-named}
 use Rattle.checkpoint.specs.declared.half.Head.{Head}
 use Rattle.checkpoint.specs.Checkpoint.{sealed, own-tag}
-use Rattle.checkpoint.specs.Fram.{fram-wrong, half-at}
-use Rattle.checkpoint.specs.Half.{open-length, secret-length, stored-restarts, good-head, good-tag, stored}
+use Rattle.checkpoint.specs.Fram.{half-at}
+use Rattle.checkpoint.specs.Half.{open-length, secret-length, stored-restarts, good-tag, stored}
+use Rattle.memories.specs.Stages.{of-memories}
 use Rattle.protocol.specs.Calls.{PowersUp}
 use Rattle.protocol.specs.Operations.{key-wrong, nonce-wrong, staging-wrong, state-wrong, resumed}
+use Rattle.look.specs.Stages.{look-half}
 
 -- ---- conditions
 
--- those of look about its buffers
-abbrev pub look-buffers : ℕ → ℕ → (ring fram key : List ℕ) → List (ℕ × Bool)
-look-buffers pages slots ring fram key = (1, ring-wrong pages slots ring) ∷ (2, fram-wrong fram) ∷ (3, key-wrong (length key)) ∷ []
-
--- those of look about the half that a record names
-abbrev pub look-half : (key newest fram : List ℕ) → List (ℕ × Bool)
-look-half key newest fram =
-    let half = half-at fram (half-named newest) in
-    (11, not (good-head half)) ∷ (12, not (good-tag key (take nonce-length newest) half)) ∷ []
-
--- those of power-up about its buffers
+-- those about the memories and the buffers
 abbrev pub power-up-buffers : (ring fram : List ℕ) → PowersUp → List (ℕ × Bool)
 power-up-buffers ring fram a =
-    (1, ring-wrong (a .sizes .pages) (a .sizes .slots) ring) ∷
-    (2, fram-wrong fram) ∷
+    of-memories (a .sizes .pages) (a .sizes .slots) ring fram ++ (
     (3, key-wrong (length (a .key)) || nonce-wrong (length (a .nonce))) ∷
-    (4, staging-wrong (a .staging) fram || state-wrong (a .state)) ∷ []
+    (4, staging-wrong (a .staging) fram || state-wrong (a .state)) ∷ [])
 
--- those of power-up about the ring, which reads as n
+-- those about the ring, which reads as n
 abbrev pub power-up-ring : (ring : List ℕ) → ℕ → Newest → List ℕ → List (ℕ × Bool)
 power-up-ring ring slots n nonce = (6, is-blank n) ∷ (7, is-unreadable n) ∷ (10, nonce-used ring slots n nonce) ∷ []
 
--- those of power-up about the half that a record names
+-- those about the half that a record names: look's, and the restarts
 abbrev pub power-up-half : (key newest fram : List ℕ) → List (ℕ × Bool)
-power-up-half key newest fram =
-    let half = half-at fram (half-named newest) in
-    (11, not (good-head half)) ∷
-    (12, not (good-tag key (take nonce-length newest) half)) ∷
-    (13, eqb (stored-restarts half) restart-limit) ∷ []
+power-up-half key newest fram = look-half key newest fram ++ ((13, eqb (stored-restarts (half-at fram (half-named newest))) restart-limit) ∷ [])
 
--- those of power-up about the half behind a good head, whose record has the nonce `latest`
+-- those about the half behind a good head, whose record has the nonce `latest`
 abbrev pub half-lines : (key latest half : List ℕ) → List (ℕ × Bool)
 half-lines key latest half = (12, not (good-tag key latest half)) ∷ (13, eqb (stored-restarts half) restart-limit) ∷ []
 

@@ -1,7 +1,6 @@
-// The checkpoint keeper (document 01): power-up, look and wipe. What jobs and sessions are, the saves and the advance are in the crate
-// `jobs`, whose names are passed on.
+// The checkpoint keeper (document 01): power-up and wipe. Looking is in the crate `look`; what jobs and sessions are, the saves and the
+// advance are in the crate `jobs`. The names of both are passed on.
 mod buffers;
-mod looking;
 mod resuming;
 mod types;
 
@@ -20,11 +19,11 @@ pub use jobs::first_save;
 pub use jobs::first_save_check;
 pub use jobs::no_job;
 pub use jobs::no_session;
-pub use looking::look;
-pub use looking::open_part;
-pub use looking::see;
+pub use look::Looked;
+pub use look::Seen;
+pub use look::look;
+pub use look::open_part;
+pub use look::see;
 pub use resuming::power_up;
 pub use resuming::power_up_check;
-pub use types::Looked;
 pub use types::PoweredUp;
-pub use types::Seen;

@@ -1,7 +1,5 @@
 // Power-up (document 01, "What the unit calls"): the newest checkpoint opened, and sealed anew with one restart more. Everything that can
 // stop it is tried before a byte of staging or state is written.
-use crate::looking::see_half;
-use crate::types::Looked;
 use crate::types::PoweredUp;
 use aes::expand_key;
 use aes::table::round_table;
@@ -22,8 +20,10 @@ use jobs::Job;
 use jobs::Origin;
 use jobs::Phase;
 use jobs::Start;
-use jobs::check_memories;
 use jobs::no_job;
+use look::Looked;
+use look::see_half;
+use memories::check_memories;
 use octets::fill;
 use octets::limits::NONCE_LENGTH;
 use octets::limits::PART_LIMIT;

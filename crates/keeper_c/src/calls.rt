@@ -5,14 +5,14 @@ use crate::bytes::put_job;
 use crate::bytes::put_session;
 use crate::cipher::answer;
 use jobs::Progress;
-use jobs::check_memories;
 use keeper::Looked;
 use keeper::see;
+use memories::check_memories;
 use stops::Stop;
 use stops::stop_number;
 ghost use mathlib.Core.Path.{_≡_};
 ghost use Rattle.jobs.specs.View.{sizes};
-ghost use Rattle.keeper.specs.View.{looks};
+ghost use Rattle.look.specs.View.{looks};
 ghost use Rattle.keeper_c.specs.Calls.{look-call, looking-left, advance-call, advancing-left};
 
 // The restarts of the newest checkpoint, and where its open part lies in the FRAM image.

@@ -13,9 +13,10 @@ use Rattle.checkpoint.specs.Fram.{half-at}
 use Rattle.checkpoint.specs.Half.{stored-restarts}
 use Rattle.protocol.specs.Types.{Unseen, Restarts}
 use Rattle.protocol.specs.Operations.{look-by}
-use Rattle.keeper.specs.View.{view-looked}
-use Rattle.keeper.specs.Stages.{look-half, power-up-half}
-use Rattle.keeper.proofs.LookLaws.{by-unseen, by-restarts}
+use Rattle.look.specs.View.{view-looked}
+use Rattle.look.specs.Stages.{look-half}
+use Rattle.look.proofs.LookLaws.{by-unseen, by-restarts}
+use Rattle.keeper.specs.Stages.{power-up-half}
 use Rattle.keeper.proofs.resuming.check_power_up_half.Statement.{statement}
 use Rattle.keeper.proofs.resuming.check_power_up_half.Tie as tie
 

@@ -7,8 +7,7 @@ use Rattle.stops.specs.Stops.{first-of}
 use Rattle.stops.specs.View.{check-number}
 use Rattle.aes.specs.Cipher.{cipher, aes}
 use Rattle.keeper.specs.Stages.{half-lines}
-use Rattle.keeper.proofs.LookLaws.{stopped-not-none}
-use Rattle.keeper.proofs.ResumeLaws.{half-tried, tag-passes, restarts-below}
+use Rattle.keeper.proofs.ResumeLaws.{stopped-not-none, half-tried, tag-passes, restarts-below}
 use Rattle.keeper.proofs.resuming.reseal_prepared.Statement.{statement}
 use Rattle.keeper.proofs.resuming.reseal_prepared.Tie as tie
 

@@ -1,7 +1,7 @@
 -- `keeper_c::calls::keeper_look` meets its contract. Assumes nothing.
 use mathlib.Core.Path.{sym, ap, _∙_}
 use borrow.Author.Needs.{needs}
-use Rattle.keeper.specs.View.{view-looked, looks}
+use Rattle.look.specs.View.{view-looked, looks}
 use Rattle.keeper_c.proofs.LookLaws.{restarts-small, unseen, seen}
 use Rattle.keeper_c.proofs.calls.keeper_look.Statement.{statement}
 use Rattle.keeper_c.proofs.calls.keeper_look.Tie as tie

@@ -1,4 +1,4 @@
--- `keeper::looking::check_half` meets its contract. Assumes nothing.
+-- `look::looking::check_half` meets its contract. Assumes nothing.
 use mathlib.Core.Path.{_≡_, sym, _∙_}
 use mathlib.Core.Bool.{Bool, true, false, not}
 use mathlib.Core.Option.{none, some}
@@ -6,8 +6,8 @@ use mathlib.Core.List.{[], _∷_}
 use borrow.Author.Needs.{needs}
 use Rattle.stops.specs.Stops.{first-of, then-stop}
 use Rattle.checkpoint.specs.Half.{good-tag}
-use Rattle.keeper.proofs.looking.check_half.Statement.{statement}
-use Rattle.keeper.proofs.looking.check_half.Tie as tie
+use Rattle.look.proofs.looking.check_half.Statement.{statement}
+use Rattle.look.proofs.looking.check_half.Tie as tie
 
 passed : (g t good : Bool) → g ≡ true → good ≡ t → then-stop none 12 (not good) ≡ first-of ((11, not g) ∷ (12, not t) ∷ [])
 unfolding first-of

@@ -1,12 +1,12 @@
--- `keeper::looking::see_newest` meets its contract. Assumes nothing.
+-- `look::looking::see_newest` meets its contract. Assumes nothing.
 use mathlib.Core.Path.{_≡_, sym, ap, _∙_}
 use borrow.Author.Needs.{needs}
 use Rattle.stops.specs.Stops.{first-of}
 use Rattle.stops.specs.View.{check-number}
 use Rattle.ring.specs.Ring.{read-ring, newest-record}
-use Rattle.keeper.proofs.LookLaws.{ring-lines, Buffers, buffers-pass, ring-tried, ring-stop, names-half, sees, sees-half}
-use Rattle.keeper.proofs.looking.see_newest.Statement.{statement}
-use Rattle.keeper.proofs.looking.see_newest.Tie as tie
+use Rattle.look.proofs.LookLaws.{ring-lines, Buffers, buffers-pass, ring-tried, ring-stop, names-half, sees, sees-half}
+use Rattle.look.proofs.looking.see_newest.Statement.{statement}
+use Rattle.look.proofs.looking.see_newest.Tie as tie
 
 abbrev start : tie.After-read-ring → tie.Start
 start c = c .before .before .before .before

@@ -1,8 +1,8 @@
--- `jobs::memories::check_memories` meets its contract. Assumes nothing.
+-- `memories::check_memories` meets its contract. Assumes nothing.
 use borrow.Author.Needs.{needs}
 use Rattle.stops.proofs.Laws.{tried, tried-first}
-use Rattle.jobs.proofs.memories.check_memories.Statement.{statement}
-use Rattle.jobs.proofs.memories.check_memories.Tie as tie
+use Rattle.memories.proofs.check_memories.Statement.{statement}
+use Rattle.memories.proofs.check_memories.Tie as tie
 
 returns : tie.Need-returns
 unfolding tried

@@ -7,7 +7,7 @@ use checkpoint::half::read_head;
 use checkpoint::layout::HEAD_LENGTH;
 use checkpoint::under::good_tag_under;
 use gcm::key_wrong;
-use jobs::check_memories;
+use memories::check_memories;
 use octets::limits::NONCE_LENGTH;
 use octets::part;
 use ring::half_named;
@@ -27,9 +27,9 @@ ghost use Rattle.ring.specs.Ring.{half-named};
 ghost use Rattle.checkpoint.specs.Fram.{fram-wrong};
 ghost use Rattle.checkpoint.specs.Half.{open-length, secret-length, good-head, good-tag};
 ghost use Rattle.protocol.specs.Operations.{look, open-stretch, stretch-of};
-ghost use Rattle.keeper.specs.View.{view-looked, view-stretch, looks};
-ghost use Rattle.keeper.specs.Stages.{look-buffers, look-half};
-ghost use Rattle.keeper.specs.Seen.{Sees};
+ghost use Rattle.look.specs.View.{view-looked, view-stretch, looks};
+ghost use Rattle.look.specs.Stages.{look-buffers, look-half};
+ghost use Rattle.look.specs.Seen.{Sees};
 
 // Stops 11 and 12 of a half, whose head was read.
 fn check_half(key: &[u8], nonce: &[u8], half: &[u8], head: Head) -> Check
@@ -55,7 +55,7 @@ fn unseen(stop: Stop) -> Seen
 }
 
 // The half that a record names: stops 11 and 12, or its restarts and open part.
-pub(crate) fn see_half(record: &[u8], fram: &[u8], key: &[u8]) -> Seen
+pub fn see_half(record: &[u8], fram: &[u8], key: &[u8]) -> Seen
     requires { ⌜ (fram-wrong (now fram) ≡ false) × (length (now key) ≡ key-length) × (length (now «record») ≡ slot-length) × (half-named (now «record») ≤ 1) ⌝ }
     ensures { λ r. ⌜ Sees r (first-of (look-half (now (key .entry)) (now («record» .entry)) (now (fram .entry)))) (now (fram .entry)) (half-named (now («record» .entry))) ⌝ }
 {

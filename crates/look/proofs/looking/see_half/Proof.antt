@@ -1,4 +1,4 @@
--- `keeper::looking::see_half` meets its contract. Assumes nothing.
+-- `look::looking::see_half` meets its contract. Assumes nothing.
 use mathlib.Core.Path.{_≡_, sym, ap, subst, _∙_}
 use mathlib.Core.List.{List, [], _∷_}
 use mathlib.Core.Bool.{not}
@@ -17,11 +17,11 @@ use Rattle.checkpoint.specs.Fram.{half-at, half-length}
 use Rattle.checkpoint.specs.Half.{open-length, stored-restarts, good-head, good-tag}
 use Rattle.checkpoint.proofs.FramLaws.{fram-sizes, half-within}
 use Rattle.protocol.specs.Operations.{look-by, stretch-by}
-use Rattle.keeper.specs.declared.types.Looked.the-variants.{Restarts}
-use Rattle.keeper.specs.Stages.{look-half}
-use Rattle.keeper.specs.Seen.{Sees}
-use Rattle.keeper.proofs.looking.see_half.Statement.{statement}
-use Rattle.keeper.proofs.looking.see_half.Tie as tie
+use Rattle.look.specs.declared.types.Looked.the-variants.{Restarts}
+use Rattle.look.specs.Stages.{look-half}
+use Rattle.look.specs.Seen.{Sees}
+use Rattle.look.proofs.looking.see_half.Statement.{statement}
+use Rattle.look.proofs.looking.see_half.Tie as tie
 
 -- said of the half that the record names
 module _ (key newest fram : List ℕ) (h : ℕ) (x : h ≡ half-named newest) (half : List ℕ) (y : half ≡ half-at fram h) where

@@ -1,4 +1,4 @@
--- `jobs::memories::copy_word` meets its contract: the part that was lent comes back as the word. Assumes nothing.
+-- `jobs::word::copy_word` meets its contract: the part that was lent comes back as the word. Assumes nothing.
 use Prim.Native.Nat.{_+_, _*_}
 use mathlib.Core.Path.{_≡_}
 use native.Mathlib.Nat.{add-sub-cancel-left, add-zero}
@@ -8,8 +8,8 @@ use borrow.Author.Needs.{needs}
 use Rattle.octets.specs.Octets.{part}
 use Rattle.octets.proofs.Lent.{put-part}
 use Rattle.checkpoint.specs.Fram.{half-length}
-use Rattle.jobs.proofs.memories.copy_word.Statement.{statement}
-use Rattle.jobs.proofs.memories.copy_word.Tie as tie
+use Rattle.jobs.proofs.word.copy_word.Statement.{statement}
+use Rattle.jobs.proofs.word.copy_word.Tie as tie
 
 mul-a : tie.Need-mul-a
 unfolding half-length

@@ -19,14 +19,10 @@ use Rattle.checkpoint.proofs.StoredLaws.{head-facts}
 use Rattle.checkpoint.specs.Half.{open-length, stored-restarts}
 use Rattle.protocol.specs.Types.{Restarts, Unseen}
 use Rattle.protocol.specs.Operations.{newest-half, look-stop, look, look-by, open-stretch, stretch-by}
-use Rattle.keeper.specs.View.{view-looked, view-stretch, looks}
-use Rattle.keeper.specs.Stages.{look-buffers, look-half}
-use Rattle.keeper.specs.Seen.{Sees}
-use Rattle.keeper.specs.declared.types.Seen.{Seen}
-
--- a stop is not none
-pub stopped-not-none : {A : Type 0} {s : ℕ} → some s ≡ none → A
-stopped-not-none e = let z : _≡_ {A = ℕ} 0 1 = cc in absurd (omega arith)
+use Rattle.look.specs.View.{view-looked, view-stretch, looks}
+use Rattle.look.specs.Stages.{look-buffers, look-half}
+use Rattle.look.specs.Seen.{Sees}
+use Rattle.look.specs.declared.types.Seen.{Seen}
 
 -- what an answer says of the stop
 pub by-unseen : (o : Option ℕ) (r s : ℕ) → Unseen s ≡ look-by o r → o ≡ some s

@@ -1,13 +1,13 @@
--- `keeper::looking::open_part` meets its contract. Assumes nothing.
+-- `look::looking::open_part` meets its contract. Assumes nothing.
 use mathlib.Core.Path.{ap, _∙_}
 use native.Mathlib.Omega.{arith}
 use borrow.Author.Needs.{needs}
 use Rattle.octets.specs.Octets.{part}
 use Rattle.protocol.specs.Types.{Stretch}
 use Rattle.protocol.specs.Operations.{stretch-of}
-use Rattle.keeper.proofs.LookLaws.{stretch-within}
-use Rattle.keeper.proofs.looking.open_part.Statement.{statement}
-use Rattle.keeper.proofs.looking.open_part.Tie as tie
+use Rattle.look.proofs.LookLaws.{stretch-within}
+use Rattle.look.proofs.looking.open_part.Statement.{statement}
+use Rattle.look.proofs.looking.open_part.Tie as tie
 
 part-requires : tie.Need-part-requires
 part-requires c κs =

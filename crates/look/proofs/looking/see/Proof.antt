@@ -1,14 +1,14 @@
--- `keeper::looking::see` meets its contract. Assumes nothing.
+-- `look::looking::see` meets its contract. Assumes nothing.
 use mathlib.Core.Path.{_≡_, sym, ap, _∙_}
 use mathlib.Core.List.{[], _∷_}
 use borrow.Author.Needs.{needs}
 use Rattle.stops.specs.Stops.{first-of}
 use Rattle.stops.specs.View.{check-number}
 use Rattle.stops.proofs.Laws.{one-more}
-use Rattle.keeper.specs.Stages.{look-buffers}
-use Rattle.keeper.proofs.LookLaws.{buffers-stop, sees}
-use Rattle.keeper.proofs.looking.see.Statement.{statement}
-use Rattle.keeper.proofs.looking.see.Tie as tie
+use Rattle.look.specs.Stages.{look-buffers}
+use Rattle.look.proofs.LookLaws.{buffers-stop, sees}
+use Rattle.look.proofs.looking.see.Statement.{statement}
+use Rattle.look.proofs.looking.see.Tie as tie
 
 abbrev start : tie.After-stop-if → tie.Start
 start c = c .before .before .before .before .before .before

@@ -7,8 +7,8 @@ use Rattle.checkpoint.specs.Checkpoint.{head-length}
 use Rattle.checkpoint.specs.Fram.{half-length, half-at}
 use Rattle.checkpoint.specs.Half.{open-length, stored-restarts}
 use Rattle.protocol.specs.Operations.{look-by, stretch-by}
-use Rattle.keeper.specs.View.{view-looked, view-stretch}
-use Rattle.keeper.specs.declared.types.Seen.{Seen}
+use Rattle.look.specs.View.{view-looked, view-stretch}
+use Rattle.look.specs.declared.types.Seen.{Seen}
 
 pub record Sees (s : Seen) (o : Option ℕ) (fram : List ℕ) (half : ℕ) : Type 0 where
   pub looked : view-looked (s .looked) ≡ look-by o (stored-restarts (half-at fram half))

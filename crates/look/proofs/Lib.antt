@@ -1,0 +1,3 @@
+-- Laws of the views and of look's conditions.
+pub mod ViewLaws
+pub mod LookLaws

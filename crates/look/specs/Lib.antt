@@ -1,0 +1,4 @@
+-- What the code's values stand for.
+pub mod View
+pub mod Stages
+pub mod Seen

@@ -1,0 +1,21 @@
+-- The stops of look in the stages in which the code tries them (document 01, "Stops, by the place of checking").
+use Prim.Native.Nat.{ℕ}
+use mathlib.Core.Bool.{Bool, not}
+use mathlib.Core.List.{List, [], _∷_, _++_}
+use lib.ListN.{length, take}
+use Rattle.octets.specs.Limits.{nonce-length}
+use Rattle.ring.specs.Ring.{half-named}
+use Rattle.checkpoint.specs.Fram.{half-at}
+use Rattle.checkpoint.specs.Half.{good-head, good-tag}
+use Rattle.memories.specs.Stages.{of-memories}
+use Rattle.protocol.specs.Operations.{key-wrong}
+
+-- those about the memories and the key
+abbrev pub look-buffers : ℕ → ℕ → (ring fram key : List ℕ) → List (ℕ × Bool)
+look-buffers pages slots ring fram key = of-memories pages slots ring fram ++ ((3, key-wrong (length key)) ∷ [])
+
+-- those about the half that a record names
+abbrev pub look-half : (key newest fram : List ℕ) → List (ℕ × Bool)
+look-half key newest fram =
+    let half = half-at fram (half-named newest) in
+    (11, not (good-head half)) ∷ (12, not (good-tag key (take nonce-length newest) half)) ∷ []

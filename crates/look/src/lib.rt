@@ -1,0 +1,10 @@
+// Looking at the newest checkpoint (document 01, "What the unit calls"): its restarts, and where its open part lies.
+mod looking;
+mod types;
+
+pub use looking::look;
+pub use looking::open_part;
+pub use looking::see;
+pub use looking::see_half;
+pub use types::Looked;
+pub use types::Seen;

@@ -1,0 +1,2 @@
+-- The stops of both memories.
+pub mod Stages
