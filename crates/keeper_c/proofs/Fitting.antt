@@ -2,7 +2,7 @@
 -- Assumes nothing.
 use Prim.Native.Nat.{ℕ, _+_, _*_, _^_, _≤_, _<_}
 use mathlib.Core.Path.{_≡_, refl, ap₂, _∙_}
-use mathlib.Core.Bool.{Bool, true, false, not, cond}
+use mathlib.Core.Bool.{Bool, true, false, cond}
 use mathlib.Core.Option.{Option, none}
 use mathlib.Core.List.{List}
 use native.Mathlib.Omega.{arith}
@@ -10,7 +10,6 @@ use borrow.Author.Tests.{eqb-true, not-false}
 use lib.Dec.{eqb, ltb, lit<}
 use lib.ListN.{length, length-append, take}
 use Rattle.octets.specs.Limits.{nonce-length, tag-length, part-limit}
-use Rattle.octets.proofs.Laws.{length-part}
 use Rattle.octets.proofs.Numbers.{length-word}
 use Rattle.stops.proofs.Laws.{passes, neither}
 use Rattle.ring.specs.Ring.{ring-wrong, record-of, page-before, Newest, Blank, Unreadable, At, AtPending, read-ring, newest-page, newest-slot, next-page, newest-record, target-page, target-slot}
@@ -22,15 +21,15 @@ use Rattle.checkpoint.specs.Half.{good-head}
 use Rattle.checkpoint.proofs.FramLaws.{half-sizes}
 use Rattle.checkpoint.proofs.SealedLaws.{length-own-tag, length-sealed}
 use Rattle.checkpoint.proofs.StoredLaws.{stored-in-range}
-use Rattle.protocol.specs.Types.{Phase, EraseFirst, Words, Record, EraseAfter, Done, Origin, Job, Session}
+use Rattle.protocol.specs.Types.{Phase, EraseFirst, Words, Record, EraseAfter, Done, Origin, Job}
 use Rattle.protocol.specs.Calls.{Sizes, SaveArguments, FirstSave, Saves, PowersUp, Advances}
-use Rattle.protocol.specs.Operations.{key-wrong, nonce-wrong, begin, no-job, job-of, first-checkpoint, save-checkpoint, resumed, first-phase, first-save-stop, first-save, save-stop, save, newest-half, newest-checkpoint, power-up-stop, power-up, no-session, job-record, session-of, in-phase, Moved, going-on, ended, recorded, erase-follows, after-record, store, advance-stop, advance-by, advance}
+use Rattle.protocol.specs.Operations.{key-wrong, nonce-wrong, begin, job-of, first-checkpoint, save-checkpoint, resumed, first-phase, first-save-stop, first-save, save-stop, save, newest-half, newest-checkpoint, power-up-stop, power-up, no-session, job-record, session-of, in-phase, Moved, going-on, ended, recorded, erase-follows, after-record, store, advance-stop, advance-by, advance}
 use Rattle.jobs.proofs.AdvanceLaws.{Ready, ready, word-ready}
 use Rattle.jobs.proofs.SaveLaws.{lengths, first-lengths}
-use Rattle.keeper_c.specs.Bytes.{session-length, phase-place, job-bytes, session-bytes, no-job-in, job-in, session-in}
+use Rattle.job_bytes.specs.Bytes.{phase-place, job-bytes, session-bytes, job-in, session-in}
+use Rattle.job_bytes.proofs.BytesLaws.{session-tag, job-lengths}
+use Rattle.job_bytes.proofs.ReadBack.{FitsJob, FitsSession, job-back, session-back}
 use Rattle.keeper_c.specs.Calls.{saves-in, advances-in}
-use Rattle.keeper_c.proofs.BytesLaws.{job-long}
-use Rattle.keeper_c.proofs.ReadBack.{FitsJob, FitsSession, job-back, session-back}
 
 -- what holds of both branches holds of the one taken
 either : {A : Type 0} (P : A → Type 0) (b : Bool) (x y : A) → P x → (b ≡ false → P y) → P (cond b x y)
@@ -181,18 +180,6 @@ module _ (ring fram : List ℕ) (a : Advances) (nonce : length (a .job .nonce) �
   advance-fits : Fits (advance ring fram a)
   unfolding advance advance-by
   advance-fits = rw e (store-fits (a .job .phase) refl)
-
--- ---- what is read from any buffer has a nonce and a tag of their lengths
-
-session-tag : (b : List ℕ) → length (session-in b .tag) ≡ tag-length
-unfolding session-in no-session
-session-tag b = either (λ (s : Session). length (s .tag) ≡ tag-length) (not (eqb (length b) session-length)) no-session _ refl
-    (λ e. let l = eqb-true (length b) session-length (not-false _ e) in length-part b 24 tag-length (omega arith))
-
-job-lengths : (b : List ℕ) → (length (job-in b .nonce) ≡ nonce-length) × (length (job-in b .tag) ≡ tag-length)
-unfolding job-in no-job
-job-lengths b = either (λ (j : Job). (length (j .nonce) ≡ nonce-length) × (length (j .tag) ≡ tag-length)) (no-job-in b) no-job _ (refl, refl)
-    (λ e. let l = job-long b e in (length-part b 28 nonce-length (omega arith), length-part b 40 tag-length (omega arith)))
 
 -- ---- what the calls write reads back
 

@@ -3,7 +3,6 @@ use Prim.Native.Nat.{ℕ}
 use mathlib.Core.Path.{_≡_, refl, ap, _∙_}
 use mathlib.Core.Bool.{Bool, true, false, not, _||_}
 use mathlib.Core.List.{List, [], _∷_}
-use borrow.Author.Tests.{ne-eqb}
 use lib.Dec.{eqb}
 use lib.ListN.{length}
 use Rattle.stops.specs.Stops.{first-of}
@@ -11,17 +10,13 @@ use Rattle.ring.specs.Ring.{ring-wrong, is-blank, is-unreadable}
 use Rattle.checkpoint.specs.Fram.{fram-wrong}
 use Rattle.protocol.specs.Types.{Job, Session}
 use Rattle.protocol.specs.Calls.{Sizes, SaveArguments}
-use Rattle.protocol.specs.Operations.{key-wrong, nonce-wrong, parts-wrong, staging-wrong, stale, newest-in, no-session, save-stop, job-wrong}
+use Rattle.protocol.specs.Operations.{key-wrong, nonce-wrong, parts-wrong, staging-wrong, stale, newest-in, save-stop, job-wrong}
 use Rattle.protocol.proofs.FreeResults.{no-session-stale, no-job-wrong}
-use Rattle.keeper_c.specs.Bytes.{session-length, no-job-in, session-in}
+use Rattle.job_bytes.specs.Bytes.{session-length, no-job-in}
+use Rattle.job_bytes.proofs.BytesLaws.{unread, no-session-in}
 use Rattle.keeper_c.specs.Calls.{saves-in, advances-in, advance-call-stop}
-use Rattle.keeper_c.proofs.AdvanceLaws.{unread}
 
 -- ---- sessions
-
-no-session-in : (b : List ℕ) → (length b ≡ session-length → ⊥) → session-in b ≡ no-session
-unfolding session-in
-no-session-in b n = rw (ne-eqb (length b) session-length n)
 
 -- the eighth row holds where it is tried, so no later row is
 rows : (a b c d e f g : Bool) (more : List (ℕ × Bool)) → (a ≡ false → e ≡ false → f ≡ false → g ≡ true)

@@ -11,7 +11,7 @@ use Rattle.checkpoint.specs.Checkpoint.{Checkpoint}
 use Rattle.protocol.specs.Types.{Job, Start, Begun, Stopped}
 use Rattle.protocol.specs.Calls.{FirstSave, Saves, PowersUp}
 use Rattle.protocol.specs.Operations.{Begin, begin, first-save-stop, first-save, save-stop, save, power-up-stop, power-up}
-use Rattle.keeper_c.specs.Bytes.{job-length}
+use Rattle.job_bytes.specs.Bytes.{job-length}
 use Rattle.keeper_c.specs.Calls.{Starting, answer, with-job, starting-left, saving-left, starting-by, first-save-call, save-call, power-up-call}
 use Rattle.keeper_c.specs.Started.{start-number, job-after, length-after}
 

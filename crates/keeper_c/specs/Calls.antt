@@ -14,7 +14,7 @@ use Rattle.checkpoint.specs.Fram.{fram-wrong}
 use Rattle.protocol.specs.Types.{Session, Stretch, Looked, Restarts, Unseen, Progress, GoingOn, Saved, Restored, Refused}
 use Rattle.protocol.specs.Calls.{Sizes, SaveArguments, FirstSave, Saves, PowersUp, Looks, Advances}
 use Rattle.protocol.specs.Operations.{Begin, Moved, staging-wrong, first-save-stop, first-save, save-stop, save, power-up-stop, power-up, look, open-stretch, job-wrong, advance}
-use Rattle.keeper_c.specs.Bytes.{job-length, session-length, job-bytes, session-bytes, job-in, session-in}
+use Rattle.job_bytes.specs.Bytes.{job-length, session-length, job-bytes, session-bytes, job-in, session-in}
 
 -- 0, or the number of a stop
 abbrev pub answer : Option ℕ → ℕ

@@ -2,7 +2,7 @@
 use Prim.Native.Nat.{ℕ}
 use mathlib.Core.List.{List}
 use Rattle.protocol.specs.Types.{Job, Start, Begun, Stopped}
-use Rattle.keeper_c.specs.Bytes.{job-bytes}
+use Rattle.job_bytes.specs.Bytes.{job-bytes}
 
 -- 0, or the number of a stop
 abbrev pub start-number : Start → ℕ

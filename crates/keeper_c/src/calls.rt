@@ -1,9 +1,9 @@
 // Look and advance.
-use crate::bytes::SESSION_LENGTH;
-use crate::bytes::job_in;
-use crate::bytes::put_job;
-use crate::bytes::put_session;
 use crate::cipher::answer;
+use job_bytes::SESSION_LENGTH;
+use job_bytes::job_in;
+use job_bytes::put_job;
+use job_bytes::put_session;
 use jobs::Progress;
 use keeper::Looked;
 use keeper::see;

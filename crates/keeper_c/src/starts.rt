@@ -1,8 +1,8 @@
 // First save, save and power-up.
-use crate::bytes::JOB_LENGTH;
-use crate::bytes::put_job;
-use crate::bytes::session_in;
 use crate::cipher::answer;
+use job_bytes::JOB_LENGTH;
+use job_bytes::put_job;
+use job_bytes::session_in;
 use jobs::Job;
 use jobs::Start;
 use jobs::first_save;
@@ -14,8 +14,8 @@ use stops::stop_number;
 ghost use mathlib.Core.Path.{_≡_};
 ghost use lib.ListN.{length};
 ghost use Rattle.jobs.specs.View.{view-job, view-start, save-arguments, first-saves};
+ghost use Rattle.job_bytes.specs.Bytes.{job-length};
 ghost use Rattle.keeper.specs.View.{powers-up};
-ghost use Rattle.keeper_c.specs.Bytes.{job-length};
 ghost use Rattle.keeper_c.specs.Calls.{starting-left, saving-left, saves-in, first-save-call, save-call, power-up-call};
 ghost use Rattle.keeper_c.specs.Started.{start-number, job-after, length-after};
 

@@ -1,0 +1,3 @@
+-- Laws of jobs and sessions as bytes.
+pub mod BytesLaws
+pub mod ReadBack

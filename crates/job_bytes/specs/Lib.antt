@@ -1,0 +1,2 @@
+-- Jobs and sessions as bytes.
+pub mod Bytes
