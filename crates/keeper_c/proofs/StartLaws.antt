@@ -13,7 +13,7 @@ use Rattle.protocol.specs.Calls.{FirstSave, Saves, PowersUp}
 use Rattle.protocol.specs.Operations.{Begin, begin, first-save-stop, first-save, save-stop, save, power-up-stop, power-up}
 use Rattle.job_bytes.specs.Bytes.{job-length}
 use Rattle.keeper_c.specs.Calls.{Starting, answer, with-job, starting-left, saving-left, starting-by, first-save-call, save-call, power-up-call}
-use Rattle.keeper_c.specs.Started.{start-number, job-after, length-after}
+use Rattle.keeper_c.specs.Inner.{start-number, job-after, length-after}
 
 -- a buffer for the job that has another length
 bad-by : (S : Option ℕ) (b : Begin) (staging state job : List ℕ) (k r : ℕ) → r ≡ answer (then-stop S 14 true)

@@ -17,7 +17,7 @@ ghost use Rattle.jobs.specs.View.{view-job, view-start, save-arguments, first-s
 ghost use Rattle.job_bytes.specs.Bytes.{job-length};
 ghost use Rattle.keeper.specs.View.{powers-up};
 ghost use Rattle.keeper_c.specs.Calls.{starting-left, saving-left, saves-in, first-save-call, save-call, power-up-call};
-ghost use Rattle.keeper_c.specs.Started.{start-number, job-after, length-after};
+ghost use Rattle.keeper_c.specs.Inner.{start-number, job-after, length-after};
 
 // Writes the job of a start that began; 0, or the number of its stop.
 fn put_started(start: Start, made: Job, job: &mut [u8]) -> u32
