@@ -87,12 +87,12 @@ unread-job b z ring fram e = go (no-job-in b) refl
 
 module _ (ring fram : List ℕ) (z : Sizes) (staging job session : List ℕ) where
   -- the call's stop 4
-  pub no-buffer : (length session ≡ session-length → ⊥) → (o q : Option ℕ) (r : ℕ) → q ≡ first-of ((1, ring-wrong (z .pages) (z .slots) ring) ∷ (2, fram-wrong fram) ∷ [])
-      → o ≡ then-stop q 4 true → r ≡ answer o → advancing-left r ring fram job session ≡ advance-call ring fram z staging job session
+  pub no-buffer : (length session ≡ session-length → ⊥) → (q : Option ℕ) (r : ℕ) → q ≡ first-of ((1, ring-wrong (z .pages) (z .slots) ring) ∷ (2, fram-wrong fram) ∷ [])
+      → r ≡ answer (then-stop q 4 true) → advancing-left r ring fram job session ≡ advance-call ring fram z staging job session
   unfolding advance-call advance-call-stop
-  no-buffer n o q r e f g =
+  no-buffer n q r e f =
       let s = bad-stop (ring-wrong (z .pages) (z .slots) ring) (fram-wrong fram) (staging-wrong staging fram) (job-wrong (job-in job) z ring fram) in
-      let h : r ≡ s .0 = g ∙ ap answer (f ∙ ap (λ (p : Option ℕ). then-stop p 4 true) e ∙ s .2) in
+      let h : r ≡ s .0 = f ∙ ap answer (ap (λ (p : Option ℕ). then-stop p 4 true) e ∙ s .2) in
       rw (ne-eqb (length session) session-length n, s .1) (ap (λ (k : ℕ). advancing-left k ring fram job session) h)
 
   module _ (right : length session ≡ session-length) (M : Moved) (m : M ≡ advance ring fram (advances-in z job staging)) where

@@ -1,5 +1,5 @@
 // Look and advance.
-use crate::cipher::answer;
+use crate::cipher::stopped;
 use job_bytes::SESSION_LENGTH;
 use job_bytes::job_in;
 use job_bytes::put_job;
@@ -94,7 +94,7 @@ pub extern "C" fn keeper_advance(
     ensures { λ r. ⌜ advancing-left r (now (ring .exit)) (now (fram .exit)) (now (job .exit)) (now (session .exit)) ≡ advance-call (now (ring .entry)) (now (fram .entry)) (sizes pages slots) (now (staging .entry)) (now (job .entry)) (now (session .entry)) ⌝ }
 {
     if session.len() != SESSION_LENGTH {
-        return answer(check_memories(ring, pages, slots, fram).stop_if(true, Stop::BufferSize));
+        return stopped(check_memories(ring, pages, slots, fram), Stop::BufferSize);
     }
     let advanced = job_in(job).advance(pages, slots, ring, fram, staging);
     let progress = advanced.progress;

@@ -10,9 +10,9 @@ use Rattle.keeper_c.proofs.calls.keeper_advance.Tie as tie
 
 returns : tie.Need-returns
 returns c =
-    let a = c .before .before .before .before .before .before .before .before .before .before .before .args in
-    no-buffer (a .ring .now) (a .fram .now) (sizes (a .pages) (a .slots)) (a .staging .now) (a .job .now) (a .session .now) (c .before .before .before .before .before .if1 .taken) _ _ _
-    (c .before .before .check-memories .ensures) (c .before .stop-if .ensures) (c .answer .ensures)
+    let a = c .before .before .before .before .before .before .before .before .before .before .args in
+    no-buffer (a .ring .now) (a .fram .now) (sizes (a .pages) (a .slots)) (a .staging .now) (a .job .now) (a .session .now) (c .before .before .before .before .if1 .taken) _ _
+    (c .before .check-memories .ensures) (c .stopped .ensures)
 
 put-moved-requires : tie.Need-put-moved-requires
 put-moved-requires c κs =
@@ -31,7 +31,6 @@ pub keeper-advance-spec : {M : Type 1} → statement M
 keeper-advance-spec =
     tie.close
     (tie.spec
-    (λ c κs. search needs)
     (λ c κs. search needs)
     (λ c κs. search needs)
     (λ c. search needs)
