@@ -17,34 +17,22 @@ use Rattle.protocol.proofs.Facts.{no-fact}
 use Rattle.protocol.proofs.FreeResults.{no-job-wrong}
 use Rattle.job_bytes.specs.Bytes.{job-length, session-length, job-bytes, no-job-in, job-in}
 use Rattle.job_bytes.proofs.BytesLaws.{job-long, unread}
-use Rattle.keeper_c.specs.Calls.{answer, progress-number, session-after, advances-in, advancing-left, advancing-by, advance-call-stop, advance-call}
+use Rattle.keeper_c.specs.Calls.{Advancing, answer, progress-number, session-after, advances-in, advancing-left, advancing-by, advance-call-stop, advance-call}
+use Rattle.keeper_c.specs.Inner.{goes, job-moved}
 use Rattle.keeper_c.proofs.Either.{or-false}
-
--- not a refusal
-abbrev pub going : Progress → Bool
-going GoingOn = true
-going Saved = true
-going Restored = true
-going (Refused n) = false
-
-abbrev number-of : Progress → ℕ
-number-of GoingOn = 0
-number-of Saved = 0
-number-of Restored = 0
-number-of (Refused n) = n
 
 -- ---- a store goes on or ends; it does not refuse
 
-finish-goes : (o : Origin) → going (finished o) ≡ true
+finish-goes : (o : Origin) → goes (finished o) ≡ true
 unfolding finished
 finish-goes Save = refl
 finish-goes PowerUp = refl
 
-either-goes : (b : Bool) (x y : Moved) → going (x .progress) ≡ true → going (y .progress) ≡ true → going (cond b x y .progress) ≡ true
+either-goes : (b : Bool) (x y : Moved) → goes (x .progress) ≡ true → goes (y .progress) ≡ true → goes (cond b x y .progress) ≡ true
 either-goes true x y p q = p
 either-goes false x y p q = q
 
-store-goes : (p : Phase) (ring fram : List ℕ) (a : Advances) → going (store p ring fram a .progress) ≡ true
+store-goes : (p : Phase) (ring fram : List ℕ) (a : Advances) → goes (store p ring fram a .progress) ≡ true
 unfolding store going-on ended after-record
 store-goes (EraseFirst p) ring fram a = refl
 store-goes (Words w) ring fram a = refl
@@ -55,15 +43,29 @@ store-goes Record ring fram a =
 store-goes (EraseAfter p) ring fram a = finish-goes (a .job .origin)
 store-goes Done ring fram a = finish-goes (a .job .origin)
 
-goes-by : (S : Option ℕ) (ring fram : List ℕ) (a : Advances) → going (advance-by S ring fram a .progress) ≡ true → S ≡ none
+job-goes : (p : Progress) (made : Job) (job : List ℕ) → goes p ≡ true → job-moved p made job ≡ job-bytes made
+job-goes GoingOn made job e = refl
+job-goes Saved made job e = refl
+job-goes Restored made job e = refl
+job-goes (Refused n) made job e = no-fact (sym e)
+
+goes-by : (S : Option ℕ) (ring fram : List ℕ) (a : Advances) → goes (advance-by S ring fram a .progress) ≡ true → S ≡ none
 unfolding advance-by
 goes-by none ring fram a e = refl
 goes-by (some s) ring fram a e = no-fact (sym e)
 
-refuses-by : (S : Option ℕ) (ring fram : List ℕ) (a : Advances) (n : ℕ) → advance-by S ring fram a .progress ≡ Refused n → S ≡ some n
-unfolding advance-by
-refuses-by none ring fram a n e = no-fact (sym (store-goes (a .job .phase) ring fram a) ∙ ap going e)
-refuses-by (some s) ring fram a n e = ap some (ap number-of e)
+-- what an advance leaves in its buffers
+left-of : (job session : List ℕ) → Moved → Advancing
+left-of job session m = advancing-left (progress-number (m .progress)) (m .ring) (m .fram) (job-moved (m .progress) (m .job) job) (session-after (m .progress) (m .session) session)
+
+left-by : (S : Option ℕ) (ring fram : List ℕ) (a : Advances) (job session : List ℕ)
+    → left-of job session (advance-by S ring fram a) ≡ advancing-by S (advance-by S ring fram a) ring fram job session
+unfolding left-of advance-by
+left-by (some n) ring fram a job session = refl
+left-by none ring fram a job session =
+    let m = store (a .job .phase) ring fram a in
+    ap (λ (b : List ℕ). advancing-left (progress-number (m .progress)) (m .ring) (m .fram) b (session-after (m .progress) (m .session) session))
+    (job-goes (m .progress) (m .job) job (store-goes (a .job .phase) ring fram a))
 
 -- ---- stops
 
@@ -85,12 +87,12 @@ unread-job b z ring fram e = go (no-job-in b) refl
 
 module _ (ring fram : List ℕ) (z : Sizes) (staging job session : List ℕ) where
   -- the call's stop 4
-  pub no-buffer : (length session ≡ session-length → ⊥) → (o q : Option ℕ) (r : ℕ) → q ≡ first-of ((1, ring-wrong (z .pages) (z .slots) ring) ∷ (2, fram-wrong fram) ∷ [])
-      → o ≡ then-stop q 4 true → r ≡ answer o → advancing-left r ring fram job session ≡ advance-call ring fram z staging job session
+  pub no-buffer : (length session ≡ session-length → ⊥) → (q : Option ℕ) (r : ℕ) → q ≡ first-of ((1, ring-wrong (z .pages) (z .slots) ring) ∷ (2, fram-wrong fram) ∷ [])
+      → r ≡ answer (then-stop q 4 true) → advancing-left r ring fram job session ≡ advance-call ring fram z staging job session
   unfolding advance-call advance-call-stop
-  no-buffer n o q r e f g =
+  no-buffer n q r e f =
       let s = bad-stop (ring-wrong (z .pages) (z .slots) ring) (fram-wrong fram) (staging-wrong staging fram) (job-wrong (job-in job) z ring fram) in
-      let h : r ≡ s .0 = g ∙ ap answer (f ∙ ap (λ (p : Option ℕ). then-stop p 4 true) e ∙ s .2) in
+      let h : r ≡ s .0 = f ∙ ap answer (ap (λ (p : Option ℕ). then-stop p 4 true) e ∙ s .2) in
       rw (ne-eqb (length session) session-length n, s .1) (ap (λ (k : ℕ). advancing-left k ring fram job session) h)
 
   module _ (right : length session ≡ session-length) (M : Moved) (m : M ≡ advance ring fram (advances-in z job staging)) where
@@ -98,28 +100,17 @@ module _ (ring fram : List ℕ) (z : Sizes) (staging job session : List ℕ) whe
     unfolding advance-call-stop advance-stop
     stops-alike = rw (eq-eqb (length session) session-length right, or-false _ false refl)
 
-    pub refused : (n r : ℕ) → M .progress ≡ Refused n → r ≡ n → advancing-left r (M .ring) (M .fram) job session ≡ advance-call ring fram z staging job session
-    unfolding advance advance-call advance-by
-    refused n r e h =
-        let S = refuses-by (advance-stop ring fram (advances-in z job staging)) ring fram (advances-in z job staging) n (ap (λ (x : Moved). x .progress) (sym m) ∙ e) in
-        let same : M ≡ advance-by (some n) ring fram (advances-in z job staging) = m ∙ ap (λ (o : Option ℕ). advance-by o ring fram (advances-in z job staging)) S in
-        (λ i. advancing-left (h i) (same i .ring) (same i .fram) job session)
-        ∙ ap (λ (o : Option ℕ). advancing-by o (advance ring fram (advances-in z job staging)) ring fram job session) (sym (stops-alike ∙ S))
+    -- a job that was moved on was read, so its buffer is as long as a job
+    pub held : goes (M .progress) ≡ true → length job ≡ job-length
+    unfolding advance advance-stop
+    held e =
+        let passed = goes-by (advance-stop ring fram (advances-in z job staging)) ring fram (advances-in z job staging) (ap (λ (x : Moved). goes (x .progress)) (sym m) ∙ e) in
+        job-long job (unread-job job z ring fram (passes _ passed .1 .1 .1 .0))
 
-    module _ (p : Progress) (told : M .progress ≡ p) (goes : going p ≡ true) where
-      passed : advance-stop ring fram (advances-in z job staging) ≡ none
-      unfolding advance
-      passed = goes-by (advance-stop ring fram (advances-in z job staging)) ring fram (advances-in z job staging) (ap (λ (x : Moved). going (x .progress)) (sym m) ∙ ap going told ∙ goes)
-
-      pub held : length job ≡ job-length
-      unfolding advance-stop
-      held = job-long job (unread-job job z ring fram (passes _ passed .1 .1 .1 .0))
-
-      pub moved : (job′ session′ : List ℕ) → job′ ≡ job-bytes (M .job) → session′ ≡ session-after p (M .session) session
-          → advancing-left (progress-number p) (M .ring) (M .fram) job′ session′ ≡ advance-call ring fram z staging job session
-      unfolding advance-call
-      moved job′ session′ j s =
-          let back = sym told in
-          (λ i. advancing-left (progress-number (back i)) (M .ring) (M .fram) (j i) ((s ∙ ap (λ (q : Progress). session-after q (M .session) session) back) i))
-          ∙ ap (λ (x : Moved). advancing-by none x ring fram job session) m
-          ∙ ap (λ (o : Option ℕ). advancing-by o (advance ring fram (advances-in z job staging)) ring fram job session) (sym (stops-alike ∙ passed))
+    pub left : (r : ℕ) (job′ session′ : List ℕ) → r ≡ progress-number (M .progress) → job′ ≡ job-moved (M .progress) (M .job) job
+        → session′ ≡ session-after (M .progress) (M .session) session → advancing-left r (M .ring) (M .fram) job′ session′ ≡ advance-call ring fram z staging job session
+    unfolding left-of advance advance-call
+    left r job′ session′ h j s =
+        (λ i. advancing-left (h i) (M .ring) (M .fram) (j i) (s i)) ∙ ap (left-of job session) m
+        ∙ left-by (advance-stop ring fram (advances-in z job staging)) ring fram (advances-in z job staging) job session
+        ∙ ap (λ (o : Option ℕ). advancing-by o (advance ring fram (advances-in z job staging)) ring fram job session) (sym stops-alike)

@@ -13,7 +13,7 @@ use Rattle.protocol.specs.Calls.{FirstSave, Saves, PowersUp}
 use Rattle.protocol.specs.Operations.{Begin, begin, first-save-stop, first-save, save-stop, save, power-up-stop, power-up}
 use Rattle.job_bytes.specs.Bytes.{job-length}
 use Rattle.keeper_c.specs.Calls.{Starting, answer, with-job, starting-left, saving-left, starting-by, first-save-call, save-call, power-up-call}
-use Rattle.keeper_c.specs.Started.{start-number, job-after, length-after}
+use Rattle.keeper_c.specs.Inner.{start-number, job-after, length-after}
 
 -- a buffer for the job that has another length
 bad-by : (S : Option ℕ) (b : Begin) (staging state job : List ℕ) (k r : ℕ) → r ≡ answer (then-stop S 14 true)
@@ -21,10 +21,10 @@ bad-by : (S : Option ℕ) (b : Begin) (staging state job : List ℕ) (k r : ℕ)
 bad-by none b staging state job k r e = ap (λ (n : ℕ). starting-left n staging state job k) e
 bad-by (some s) b staging state job k r e = ap (λ (n : ℕ). starting-left n staging state job k) e
 
-bad : (S : Option ℕ) (b : Begin) (staging state job : List ℕ) (k : ℕ) → (length job ≡ job-length → ⊥) → (o p : Option ℕ) (r : ℕ) → p ≡ S → o ≡ then-stop p 14 true → r ≡ answer o
+bad : (S : Option ℕ) (b : Begin) (staging state job : List ℕ) (k : ℕ) → (length job ≡ job-length → ⊥) → (p : Option ℕ) (r : ℕ) → p ≡ S → r ≡ answer (then-stop p 14 true)
     → starting-left r staging state job k ≡ starting-by (with-job S job) b staging state job k
-bad S b staging state job k n o p r e f g =
-    rw (ne-eqb (length job) job-length n) (bad-by S b staging state job k r (g ∙ ap answer (f ∙ ap (λ (q : Option ℕ). then-stop q 14 true) e)))
+bad S b staging state job k n p r e f =
+    rw (ne-eqb (length job) job-length n) (bad-by S b staging state job k r (f ∙ ap (λ (q : Option ℕ). answer (then-stop q 14 true)) e))
 
 -- one of the right length
 left-of : (job : List ℕ) (k : ℕ) → Begin → Starting
@@ -47,20 +47,20 @@ good S key c j staging state secret job k l B m r k′ job′ h g n =
 -- ---- the three starts
 
 module _ (ring fram job : List ℕ) where
-  pub first-save-bad : (a : FirstSave) → (length job ≡ job-length → ⊥) → (o p : Option ℕ) (r : ℕ) → p ≡ first-save-stop ring fram a → o ≡ then-stop p 14 true → r ≡ answer o
+  pub first-save-bad : (a : FirstSave) → (length job ≡ job-length → ⊥) → (p : Option ℕ) (r : ℕ) → p ≡ first-save-stop ring fram a → r ≡ answer (then-stop p 14 true)
       → saving-left r (a .arguments .staging) job ≡ first-save-call ring fram a job
   unfolding first-save-call
-  first-save-bad a n o p r = bad (first-save-stop ring fram a) (first-save ring fram a) (a .arguments .staging) [] job 0 n o p r
+  first-save-bad a n p r = bad (first-save-stop ring fram a) (first-save ring fram a) (a .arguments .staging) [] job 0 n p r
 
-  pub save-bad : (a : Saves) → (length job ≡ job-length → ⊥) → (o p : Option ℕ) (r : ℕ) → p ≡ save-stop ring fram a → o ≡ then-stop p 14 true → r ≡ answer o
+  pub save-bad : (a : Saves) → (length job ≡ job-length → ⊥) → (p : Option ℕ) (r : ℕ) → p ≡ save-stop ring fram a → r ≡ answer (then-stop p 14 true)
       → saving-left r (a .arguments .staging) job ≡ save-call ring fram a job
   unfolding save-call
-  save-bad a n o p r = bad (save-stop ring fram a) (save ring fram a) (a .arguments .staging) [] job 0 n o p r
+  save-bad a n p r = bad (save-stop ring fram a) (save ring fram a) (a .arguments .staging) [] job 0 n p r
 
-  pub power-up-bad : (a : PowersUp) (k : ℕ) → (length job ≡ job-length → ⊥) → (o p : Option ℕ) (r : ℕ) → p ≡ power-up-stop ring fram a → o ≡ then-stop p 14 true → r ≡ answer o
+  pub power-up-bad : (a : PowersUp) (k : ℕ) → (length job ≡ job-length → ⊥) → (p : Option ℕ) (r : ℕ) → p ≡ power-up-stop ring fram a → r ≡ answer (then-stop p 14 true)
       → starting-left r (a .staging) (a .state) job k ≡ power-up-call ring fram a job k
   unfolding power-up-call
-  power-up-bad a k n o p r = bad (power-up-stop ring fram a) (power-up ring fram a) (a .staging) (a .state) job k n o p r
+  power-up-bad a k n p r = bad (power-up-stop ring fram a) (power-up ring fram a) (a .staging) (a .state) job k n p r
 
   module _ (l : length job ≡ job-length) (B : Begin) (r : ℕ) (job′ : List ℕ) where
     pub first-save-good : (a : FirstSave) → B ≡ first-save ring fram a → r ≡ start-number (B .answer) → job′ ≡ job-after (B .answer) (B .job) job

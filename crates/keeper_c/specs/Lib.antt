@@ -1,3 +1,3 @@
 -- The calls for C and Rust programs.
 pub mod Calls
-pub mod Started
+pub mod Inner

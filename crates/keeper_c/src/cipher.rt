@@ -7,19 +7,28 @@ use stops::Check;
 use stops::Stop;
 use stops::stop_number;
 ghost use mathlib.Core.Path.{_≡_};
-ghost use Rattle.stops.specs.View.{check-number};
+ghost use mathlib.Core.Bool.{true};
+ghost use Rattle.stops.specs.Stops.{then-stop};
+ghost use Rattle.stops.specs.View.{check-number, stop-number};
 ghost use Rattle.gcm.specs.Calls.{opening};
 ghost use Rattle.protocol.specs.Operations.{wipe};
 ghost use Rattle.keeper_c.specs.Calls.{answer, sealing-call, sealing-left};
 
 // 0, or the number of the stop.
-pub(crate) fn answer(check: Check) -> u32
+fn answer(check: Check) -> u32
     ensures { λ r. ⌜ r ≡ answer (check-number check) ⌝ }
 {
     match check {
         Check::Pass => 0,
         Check::Stopped(stop) => stop_number(stop),
     }
+}
+
+// The number of a check's stop, or of the one given, which holds, where the check passed.
+pub(crate) fn stopped(check: Check, stop: Stop) -> u32
+    ensures { λ r. ⌜ r ≡ answer (then-stop (check-number check) (stop-number stop) true) ⌝ }
+{
+    answer(check.stop_if(true, stop))
 }
 
 // Seals `text` into `out`, and its tag into `tag`.

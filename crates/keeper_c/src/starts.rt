@@ -1,5 +1,5 @@
 // First save, save and power-up.
-use crate::cipher::answer;
+use crate::cipher::stopped;
 use job_bytes::JOB_LENGTH;
 use job_bytes::put_job;
 use job_bytes::session_in;
@@ -7,6 +7,7 @@ use jobs::Job;
 use jobs::Start;
 use jobs::first_save;
 use jobs::first_save_check;
+use keeper::PoweredUp;
 use keeper::power_up;
 use keeper::power_up_check;
 use stops::Stop;
@@ -17,7 +18,7 @@ ghost use Rattle.jobs.specs.View.{view-job, view-start, save-arguments, first-s
 ghost use Rattle.job_bytes.specs.Bytes.{job-length};
 ghost use Rattle.keeper.specs.View.{powers-up};
 ghost use Rattle.keeper_c.specs.Calls.{starting-left, saving-left, saves-in, first-save-call, save-call, power-up-call};
-ghost use Rattle.keeper_c.specs.Started.{start-number, job-after, length-after};
+ghost use Rattle.keeper_c.specs.Inner.{start-number, job-after, length-after};
 
 // Writes the job of a start that began; 0, or the number of its stop.
 fn put_started(start: Start, made: Job, job: &mut [u8]) -> u32
@@ -41,6 +42,16 @@ fn length_after(start: Start, restored: usize, stood: usize) -> usize
         Start::Stopped(_) => stood,
         Start::Begun => restored,
     }
+}
+
+// Writes the job of a power-up that began, and the length of the secret part; 0, or the number of its stop.
+fn put_powered(powered: PoweredUp, job: &mut [u8], secret_len: &mut usize) -> u32
+    requires { ⌜ length (now job) ≡ job-length ⌝ }
+    ensures { λ r. ⌜ (r ≡ start-number (view-start (powered .start))) × (now (job .exit) ≡ job-after (view-start (powered .start)) (view-job (powered .job)) (now (job .entry))) × (now («secret_len» .exit) ≡ length-after (view-start (powered .start)) (powered .length) (now («secret_len» .entry))) ⌝ }
+{
+    let start = powered.start;
+    *secret_len = length_after(start, powered.length, *secret_len);
+    put_started(start, powered.job, job)
 }
 
 // Seals the unit's first checkpoint into staging, and writes the job that stores it.
@@ -73,7 +84,7 @@ pub extern "C" fn keeper_first_save(
             secret,
             staging,
         );
-        return answer(check.stop_if(true, Stop::BadJob));
+        return stopped(check, Stop::BadJob);
     }
     let started = first_save(
         pages,
@@ -121,7 +132,7 @@ pub extern "C" fn keeper_save(
             secret,
             staging,
         );
-        return answer(check.stop_if(true, Stop::BadJob));
+        return stopped(check, Stop::BadJob);
     }
     let started = given.save(
         pages,
@@ -156,10 +167,8 @@ pub extern "C" fn keeper_power_up(
 {
     if job.len() != JOB_LENGTH {
         let check = power_up_check(pages, slots, ring, fram, key, nonce, staging, state);
-        return answer(check.stop_if(true, Stop::BadJob));
+        return stopped(check, Stop::BadJob);
     }
     let powered = power_up(pages, slots, ring, fram, key, nonce, staging, state);
-    let start = powered.start;
-    *secret_len = length_after(start, powered.length, *secret_len);
-    put_started(start, powered.job, job)
+    put_powered(powered, job, secret_len)
 }

@@ -7,9 +7,9 @@ use Rattle.keeper_c.proofs.starts.keeper_first_save.Tie as tie
 
 returns : tie.Need-returns
 returns c =
-    let a = c .before .before .before .before .before .before .before .before .before .before .before .before .before .before .args in
-    first-save-bad (a .ring .now) (a .fram .now) (a .job .now) (first-saves (save-arguments (a .pages) (a .slots) (a .key .now) (a .nonce .now) (a .open-part .now) (a .secret .now) (a .staging .now)) (a .starting-tag .now)) (c .before .before .before .before .if1 .taken) _ _ _
-    (c .before .before .first-save-check .ensures) (c .before .stop-if .ensures) (c .answer .ensures)
+    let a = c .before .before .before .before .before .before .before .before .before .before .before .before .before .args in
+    first-save-bad (a .ring .now) (a .fram .now) (a .job .now) (first-saves (save-arguments (a .pages) (a .slots) (a .key .now) (a .nonce .now) (a .open-part .now) (a .secret .now) (a .staging .now)) (a .starting-tag .now)) (c .before .before .before .if1 .taken) _ _
+    (c .before .first-save-check .ensures) (c .stopped .ensures)
 
 returns-2 : tie.Need-returns-2
 returns-2 c =
@@ -22,7 +22,6 @@ pub keeper-first-save-spec : {M : Type 1} → statement M
 keeper-first-save-spec =
     tie.close
     (tie.spec
-    (λ c κs. search needs)
     (λ c κs. search needs)
     (λ c κs. search needs)
     (λ c. search needs)

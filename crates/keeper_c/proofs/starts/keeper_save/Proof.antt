@@ -11,11 +11,11 @@ use Rattle.keeper_c.proofs.starts.keeper_save.Tie as tie
 
 returns : tie.Need-returns
 returns c =
-    let a = c .before .before .before .before .before .before .before .before .before .before .before .before .before .before .before .args in
-    let given = c .before .before .before .before .before .session-in .ensures in
+    let a = c .before .before .before .before .before .before .before .before .before .before .before .before .before .before .args in
+    let given = c .before .before .before .before .session-in .ensures in
     let arguments = (save-arguments (a .pages) (a .slots) (a .key .now) (a .nonce .now) (a .open-part .now) (a .secret .now) (a .staging .now)) in
-    save-bad (a .ring .now) (a .fram .now) (a .job .now) (saves-in arguments (a .session .now)) (c .before .before .before .before .if1 .taken) _ _ _
-    (c .before .before .save-check .ensures ∙ ap (λ (s : Session). save-stop (a .ring .now) (a .fram .now) record { arguments = arguments; session = s }) given) (c .before .stop-if .ensures) (c .answer .ensures)
+    save-bad (a .ring .now) (a .fram .now) (a .job .now) (saves-in arguments (a .session .now)) (c .before .before .before .if1 .taken) _ _
+    (c .before .save-check .ensures ∙ ap (λ (s : Session). save-stop (a .ring .now) (a .fram .now) record { arguments = arguments; session = s }) given) (c .stopped .ensures)
 
 returns-2 : tie.Need-returns-2
 returns-2 c =
@@ -30,7 +30,6 @@ pub keeper-save-spec : {M : Type 1} → statement M
 keeper-save-spec =
     tie.close
     (tie.spec
-    (λ c κs. search needs)
     (λ c κs. search needs)
     (λ c κs. search needs)
     (λ c κs. search needs)

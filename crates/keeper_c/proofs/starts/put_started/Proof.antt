@@ -3,7 +3,7 @@ use mathlib.Core.Path.{sym, ap, _∙_}
 use borrow.Author.Needs.{needs}
 use Rattle.jobs.specs.declared.types.Start.{Start}
 use Rattle.jobs.specs.View.{view-start}
-use Rattle.keeper_c.specs.Started.{start-number, job-after}
+use Rattle.keeper_c.specs.Inner.{start-number, job-after}
 use Rattle.jobs.specs.View.{view-job}
 use Rattle.keeper_c.proofs.starts.put_started.Statement.{statement}
 use Rattle.keeper_c.proofs.starts.put_started.Tie as tie
