@@ -73,14 +73,11 @@ view-started a staging = record { answer = view-start (a .start); job = view-job
 
 -- ---- arguments
 
-abbrev pub sizes : ℕ → ℕ → calls.Sizes
-sizes pages slots = record { pages = pages; slots = slots }
-
 abbrev pub advances : ℕ → ℕ → Job → List ℕ → calls.Advances
-advances pages slots job staging = record { sizes = sizes pages slots; job = view-job job; staging = staging }
+advances pages slots job staging = record { sizes = calls.sizes pages slots; job = view-job job; staging = staging }
 
 abbrev pub save-arguments : ℕ → ℕ → List ℕ → List ℕ → List ℕ → List ℕ → List ℕ → calls.SaveArguments
-save-arguments pages slots key nonce open-part secret staging = record { sizes = sizes pages slots; key = key; nonce = nonce; open-part = open-part; secret = secret; staging = staging }
+save-arguments pages slots key nonce open-part secret staging = record { sizes = calls.sizes pages slots; key = key; nonce = nonce; open-part = open-part; secret = secret; staging = staging }
 
 abbrev pub first-saves : calls.SaveArguments → List ℕ → calls.FirstSave
 first-saves a starting-tag = record { arguments = a; starting-tag = starting-tag }

@@ -26,8 +26,9 @@ ghost use Rattle.octets.specs.Limits.{slot-length};
 ghost use Rattle.stops.specs.View.{check-number, stop-number};
 ghost use Rattle.ring.specs.Ring.{ring-wrong, page-before};
 ghost use Rattle.protocol.specs.Types.{Words, Record, EraseAfter};
+ghost use Rattle.protocol.specs.Calls.{sizes};
 ghost use Rattle.protocol.specs.Operations.{phase-wrong, job-wrong, advance-stop, going-on, finished, ended, erase-follows, store, advance-by, advance};
-ghost use Rattle.jobs.specs.View.{view-phase, view-origin, view-job, view-progress, view-advanced, sizes, advances};
+ghost use Rattle.jobs.specs.View.{view-phase, view-origin, view-job, view-progress, view-advanced, advances};
 
 fn finished(origin: Origin) -> Progress
     ensures { λ r. ⌜ view-progress r ≡ finished (view-origin origin) ⌝ }

@@ -3,7 +3,7 @@ use Prim.Native.Nat.{ℕ}
 use mathlib.Core.List.{List}
 use Rattle.protocol.specs.Calls as calls
 use Rattle.protocol.specs.Operations as operations
-use Rattle.jobs.specs.View.{view-job, view-start, sizes}
+use Rattle.jobs.specs.View.{view-job, view-start}
 use Rattle.keeper.specs.declared.types.PoweredUp.{PoweredUp}
 
 -- the answer, with what the lent buffers then hold
@@ -12,4 +12,4 @@ view-powered-up a staging state = record { answer = view-start (a .start); job =
 
 -- its arguments
 abbrev pub powers-up : ℕ → ℕ → List ℕ → List ℕ → List ℕ → List ℕ → calls.PowersUp
-powers-up pages slots key nonce staging state = record { sizes = sizes pages slots; key = key; nonce = nonce; staging = staging; state = state }
+powers-up pages slots key nonce staging state = record { sizes = calls.sizes pages slots; key = key; nonce = nonce; staging = staging; state = state }

@@ -10,6 +10,7 @@ use Rattle.stops.specs.Stops.{first-of, then-stop}
 use Rattle.stops.proofs.Laws.{passes}
 use Rattle.ring.specs.Ring.{ring-wrong, page-before}
 use Rattle.checkpoint.specs.Fram.{fram-wrong}
+use Rattle.memories.specs.Stages.{of-memories}
 use Rattle.protocol.specs.Types.{Phase, EraseFirst, Words, Record, EraseAfter, Done, Origin, Save, PowerUp, Job, Progress, GoingOn, Saved, Restored, Refused}
 use Rattle.protocol.specs.Calls.{Sizes, Advances}
 use Rattle.protocol.specs.Operations.{Moved, staging-wrong, job-wrong, advance-stop, going-on, finished, ended, recorded, erase-follows, after-record, store, advance-by, advance}
@@ -87,7 +88,7 @@ unread-job b z ring fram e = go (no-job-in b) refl
 
 module _ (ring fram : List ℕ) (z : Sizes) (staging job session : List ℕ) where
   -- the call's stop 4
-  pub no-buffer : (length session ≡ session-length → ⊥) → (q : Option ℕ) (r : ℕ) → q ≡ first-of ((1, ring-wrong (z .pages) (z .slots) ring) ∷ (2, fram-wrong fram) ∷ [])
+  pub no-buffer : (length session ≡ session-length → ⊥) → (q : Option ℕ) (r : ℕ) → q ≡ first-of (of-memories (z .pages) (z .slots) ring fram)
       → r ≡ answer (then-stop q 4 true) → advancing-left r ring fram job session ≡ advance-call ring fram z staging job session
   unfolding advance-call advance-call-stop
   no-buffer n q r e f =

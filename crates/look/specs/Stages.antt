@@ -14,8 +14,10 @@ use Rattle.protocol.specs.Operations.{key-wrong}
 abbrev pub look-buffers : ℕ → ℕ → (ring fram key : List ℕ) → List (ℕ × Bool)
 look-buffers pages slots ring fram key = of-memories pages slots ring fram ++ ((3, key-wrong (length key)) ∷ [])
 
+-- those about a half, sealed under a nonce
+abbrev pub of-half : (key nonce half : List ℕ) → List (ℕ × Bool)
+of-half key nonce half = (11, not (good-head half)) ∷ (12, not (good-tag key nonce half)) ∷ []
+
 -- those about the half that a record names
 abbrev pub look-half : (key newest fram : List ℕ) → List (ℕ × Bool)
-look-half key newest fram =
-    let half = half-at fram (half-named newest) in
-    (11, not (good-head half)) ∷ (12, not (good-tag key (take nonce-length newest) half)) ∷ []
+look-half key newest fram = of-half key (take nonce-length newest) (half-at fram (half-named newest))

@@ -21,4 +21,4 @@ view-stretch s = record { offset = s .offset; length = s .length }
 -- ---- arguments
 
 abbrev pub looks : ℕ → ℕ → List ℕ → calls.Looks
-looks pages slots key = record { sizes = record { pages = pages; slots = slots }; key = key }
+looks pages slots key = record { sizes = calls.sizes pages slots; key = key }

@@ -15,9 +15,9 @@ use ring::read_ring;
 use stops::Check;
 use stops::Stop;
 ghost use mathlib.Core.Path.{_≡_};
-ghost use mathlib.Core.Bool.{false, not};
+ghost use mathlib.Core.Bool.{false};
 ghost use mathlib.Core.Option.{none, some};
-ghost use mathlib.Core.List.{List, [], _∷_};
+ghost use mathlib.Core.List.{List};
 ghost use Prim.Native.Nat.{ℕ, _≤_};
 ghost use lib.ListN.{length};
 ghost use Rattle.octets.specs.Limits.{key-length, nonce-length, slot-length};
@@ -25,16 +25,16 @@ ghost use Rattle.stops.specs.Stops.{first-of};
 ghost use Rattle.stops.specs.View.{check-number, stop-number};
 ghost use Rattle.ring.specs.Ring.{half-named};
 ghost use Rattle.checkpoint.specs.Fram.{fram-wrong};
-ghost use Rattle.checkpoint.specs.Half.{open-length, secret-length, good-head, good-tag};
+ghost use Rattle.checkpoint.specs.Half.{open-length, secret-length, good-head};
 ghost use Rattle.protocol.specs.Operations.{look, open-stretch, stretch-of};
 ghost use Rattle.look.specs.View.{view-looked, view-stretch, looks};
-ghost use Rattle.look.specs.Stages.{look-buffers, look-half};
+ghost use Rattle.look.specs.Stages.{look-buffers, of-half, look-half};
 ghost use Rattle.look.specs.Seen.{Sees};
 
 // Stops 11 and 12 of a half, whose head was read.
 fn check_half(key: &[u8], nonce: &[u8], half: &[u8], head: Head) -> Check
     requires { ⌜ (length (now key) ≡ key-length) × (length (now nonce) ≡ nonce-length) × (head .good ≡ good-head (now half)) × (head .«open» ≡ open-length (now half)) × (head .secret ≡ secret-length (now half)) ⌝ }
-    ensures { λ r. ⌜ check-number r ≡ first-of ((11, not (good-head (now (half .entry)))) ∷ (12, not (good-tag (now (key .entry)) (now (nonce .entry)) (now (half .entry)))) ∷ []) ⌝ }
+    ensures { λ r. ⌜ check-number r ≡ first-of (of-half (now (key .entry)) (now (nonce .entry)) (now (half .entry))) ⌝ }
 {
     if head.good {
         let good = good_tag_under(key, nonce, half, head.open, head.secret);

@@ -10,7 +10,7 @@ use Rattle.octets.specs.Limits.{pages-least, slots-least, slot-length, fram-lea
 use Rattle.octets.specs.Octets.{blank, erased, bytes}
 use Rattle.ring.specs.Ring.{At, AtPending, read-ring}
 use Rattle.protocol.specs.Types.{Session, EraseFirst}
-use Rattle.protocol.specs.Calls.{SaveArguments, FirstSave, Saves, PowersUp, Setup, Event, first-saved, saved, powered-up, lost-in-store}
+use Rattle.protocol.specs.Calls.{sizes, SaveArguments, FirstSave, Saves, PowersUp, Setup, Event, first-saved, saved, powered-up, lost-in-store}
 use Rattle.protocol.specs.Operations.{power-up}
 use Rattle.protocol.specs.Journal.{Draft}
 use Rattle.protocol.specs.History.{State, fresh, step, run, Allowed}
@@ -88,7 +88,7 @@ Reachable =
 -- ---- three lists of the smallest unit
 
 unfoldable pub smallest : Setup
-smallest = record { sizes = record { pages = pages-least; slots = slots-least }; key = replicate key-length 0 }
+smallest = record { sizes = sizes pages-least slots-least; key = replicate key-length 0 }
 
 -- a blank ring of 6 slots and a FRAM of 88 bytes
 unfoldable pub bench-state : State

@@ -3,7 +3,7 @@ use mathlib.Core.Path.{ap, _∙_}
 use borrow.Author.Needs.{needs}
 use Rattle.protocol.specs.Types.{Job}
 use Rattle.protocol.specs.Operations.{advance}
-use Rattle.jobs.specs.View.{sizes}
+use Rattle.protocol.specs.Calls.{sizes}
 use Rattle.keeper_c.proofs.AdvanceLaws.{no-buffer, held, left}
 use Rattle.keeper_c.proofs.calls.keeper_advance.Statement.{statement}
 use Rattle.keeper_c.proofs.calls.keeper_advance.Tie as tie

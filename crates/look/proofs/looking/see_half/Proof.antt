@@ -1,7 +1,6 @@
 -- `look::looking::see_half` meets its contract. Assumes nothing.
 use mathlib.Core.Path.{_≡_, sym, ap, subst, _∙_}
-use mathlib.Core.List.{List, [], _∷_}
-use mathlib.Core.Bool.{not}
+use mathlib.Core.List.{List}
 use mathlib.Core.Option.{Option, none}
 use Prim.Native.Nat.{ℕ, _+_, _*_, _≤_}
 use native.Mathlib.Omega.{arith}
@@ -14,11 +13,11 @@ use Rattle.stops.specs.View.{check-number}
 use Rattle.ring.specs.Ring.{half-named}
 use Rattle.checkpoint.specs.Checkpoint.{head-length}
 use Rattle.checkpoint.specs.Fram.{half-at, half-length}
-use Rattle.checkpoint.specs.Half.{open-length, stored-restarts, good-head, good-tag}
+use Rattle.checkpoint.specs.Half.{open-length, stored-restarts}
 use Rattle.checkpoint.proofs.FramLaws.{fram-sizes, half-within}
 use Rattle.protocol.specs.Operations.{look-by, stretch-by}
 use Rattle.look.specs.declared.types.Looked.the-variants.{Restarts}
-use Rattle.look.specs.Stages.{look-half}
+use Rattle.look.specs.Stages.{of-half, look-half}
 use Rattle.look.specs.Seen.{Sees}
 use Rattle.look.proofs.looking.see_half.Statement.{statement}
 use Rattle.look.proofs.looking.see_half.Tie as tie
@@ -28,10 +27,10 @@ module _ (key newest fram : List ℕ) (h : ℕ) (x : h ≡ half-named newest) (h
   half-is : half ≡ half-at fram (half-named newest)
   half-is = y ∙ ap (half-at fram) x
 
-  checked : (o : Option ℕ) (nonce : List ℕ) → nonce ≡ part newest 0 nonce-length → o ≡ first-of ((11, not (good-head half)) ∷ (12, not (good-tag key nonce half)) ∷ [])
+  checked : (o : Option ℕ) (nonce : List ℕ) → nonce ≡ part newest 0 nonce-length → o ≡ first-of (of-half key nonce half)
       → o ≡ first-of (look-half key newest fram)
   unfolding part
-  checked o nonce n e = e ∙ (λ i. first-of ((11, not (good-head (half-is i))) ∷ (12, not (good-tag key (n i) (half-is i))) ∷ []))
+  checked o nonce n e = e ∙ (λ i. first-of (of-half key (n i) (half-is i)))
 
   found : {o : Option ℕ} (n m : ℕ) → none ≡ o → n ≡ stored-restarts half → m ≡ open-length half
       → Sees (record { looked = Restarts n; offset = h * half-length fram + head-length; length = m }) o fram (half-named newest)

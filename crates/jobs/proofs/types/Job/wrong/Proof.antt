@@ -2,7 +2,8 @@
 use Rattle.ring.proofs.SizeLaws.{sized, slot-ends}
 use Rattle.checkpoint.specs.Fram.{half-length}
 use Rattle.protocol.specs.Operations.{job-wrong}
-use Rattle.jobs.specs.View.{view-job, sizes}
+use Rattle.protocol.specs.Calls.{sizes}
+use Rattle.jobs.specs.View.{view-job}
 use Rattle.jobs.proofs.AdvanceLaws.{placed}
 use Rattle.jobs.proofs.types.Job.wrong.Statement.{statement}
 use Rattle.jobs.proofs.types.Job.wrong.Tie as tie
