@@ -1,7 +1,7 @@
 // Runs NIST's known answers for AES-256 and the worked examples of FIPS 197, and says how many agree.
 // A line of a file is key, text and cipher in hexadecimal; one that begins with '#' is a comment.
+use hex_digits::decode;
 use libc::STDOUT_FILENO;
-use vectors::decode;
 use vectors::until;
 
 const LINE_FEED: u8 = 0x0A;

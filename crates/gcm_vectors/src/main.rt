@@ -1,12 +1,12 @@
 // Runs NIST's vectors for AES-256-GCM, and cases at the limits of lengths, and says how many agree. A line of a file is a case, of fields
 // in hexadecimal; a field '-' is empty, and a line that begins with '#' is a comment.
+use hex_digits::decode;
 use libc::STDOUT_FILENO;
 use octets::copy;
 use octets::same;
 use octets::word_at;
 use stops::Check;
 use stops::stop_number;
-use vectors::decode;
 use vectors::until;
 ghost use Prim.Native.Nat.{_≤_, _<_};
 ghost use lib.ListN.{length};

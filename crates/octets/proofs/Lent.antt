@@ -1,16 +1,17 @@
 -- Laws of a part that was lent to be written, said of the whole: `putMid a k xs ys` is xs with ys for the k bytes from offset a on. And
 -- bytes written one stretch after the other.
 -- Assumes nothing.
-use Prim.Native.Nat.{ℕ, _+_, _≤_}
+use Prim.Native.Nat.{ℕ, _+_, _≤_, _<_}
 use mathlib.Core.Path.{_≡_, sym, ap, ap₂, _∙_}
-use mathlib.Core.List.{List, _++_, append-assoc, append-nil}
+use mathlib.Core.List.{List, [], _∷_, _++_, append-assoc, append-nil}
 use native.Mathlib.Nat.{add-zero, add-assoc}
+use native.Mathlib.Numerals.{add-one}
 use native.Mathlib.Omega.{arith}
 use borrow.Rule.Slice.PartMut.{putMid}
-use lib.ListN.{length, take, drop, length-append, take-append-drop, drop-of-length-le}
-use lib.Seq.{take-add, take-take, take-at, drop-drop, drop-append-le, drop-append-add, length-take-le}
+use lib.ListN.{length, take, drop, set, length-append, take-append-drop, drop-of-length-le}
+use lib.Seq.{set-split, take-add, take-take, take-at, drop-drop, drop-append-le, drop-append-add, length-take-le}
 use Rattle.octets.specs.Octets.{part, put}
-use Rattle.octets.proofs.Laws.{length-part, put-front}
+use Rattle.octets.proofs.Laws.{length-part, length-put, put-front}
 
 -- the part came back as ys
 pub put-back : (a k : ℕ) (xs ys : List ℕ) → length ys ≡ k → putMid a k xs ys ≡ put xs a ys
@@ -48,6 +49,15 @@ put-on xs ys zs i j e h =
     ap (λ (w : List ℕ). take j w ++ (zs ++ drop (j + length zs) w)) (sym (append-assoc (take i xs) ys D))
     ∙ ap₂ (λ (a b : List ℕ). a ++ (zs ++ b)) (take-at F D j l) d
     ∙ append-assoc (take i xs) ys (zs ++ E) ∙ ap (λ (w : List ℕ). take i xs ++ w) (sym (append-assoc ys zs E))
+
+-- one byte, and one right behind ys
+pub set-put : (xs : List ℕ) (i v : ℕ) → i < length xs → set xs i v ≡ put xs i (v ∷ [])
+unfolding put
+set-put xs i v h = set-split xs i v h ∙ ap (λ (k : ℕ). take i xs ++ v ∷ drop k xs) (sym (add-one i))
+
+pub set-on : (xs ys : List ℕ) (i j v : ℕ) → j ≡ i + length ys → j < length xs → set (put xs i ys) j v ≡ put xs i (ys ++ (v ∷ []))
+set-on xs ys i j v e h =
+    set-put (put xs i ys) j v (rw (length-put xs i ys (omega arith)) h) ∙ put-on xs ys (v ∷ []) i j e (omega arith)
 
 -- bytes put over as many
 pub over : (xs ys zs : List ℕ) → length xs ≤ length ys → zs ≡ put xs 0 ys → zs ≡ ys

@@ -1,6 +1,6 @@
 -- Laws of a list given by a rule, and of loops that fill a list from the front. Assumes nothing.
 use mathlib.Core.Path.{_≡_, refl, sym, ap, ap₂, _∙_}
-use mathlib.Core.List.{List, _++_}
+use mathlib.Core.List.{List, [], _∷_, _++_}
 use Prim.Native.Nat.{ℕ, zero, suc, _+_, _<_, _≤_}
 use native.Mathlib.Nat.{le-of-suc-le-suc, not-suc-le-zero, zero-add}
 use native.Mathlib.Numerals.{add-one}
@@ -20,6 +20,14 @@ pub getD-table : (n : ℕ) (f : ℕ → ℕ) (i : ℕ) → i < n → getD (table
 getD-table zero f i h = absurd (not-suc-le-zero h)
 getD-table (suc n) f zero h = refl
 getD-table (suc n) f (suc i) h = getD-table n (λ i. f (suc i)) i (le-of-suc-le-suc h)
+
+-- one element more
+pub table-snoc : (n : ℕ) (f : ℕ → ℕ) → table (n + 1) f ≡ table n f ++ (f n ∷ [])
+table-snoc n f = ap (λ (k : ℕ). table k f) (add-one n) ∙ snoc n f
+  where
+    snoc : (n : ℕ) (f : ℕ → ℕ) → table (suc n) f ≡ table n f ++ (f n ∷ [])
+    snoc zero f = refl
+    snoc (suc n) f = ap (λ (l : List ℕ). f 0 ∷ l) (snoc n (λ i. f (suc i)))
 
 -- a list of n elements that has f i at each place i
 pub is-table : (n : ℕ) (f : ℕ → ℕ) (l : List ℕ) → length l ≡ n → ((i : ℕ) → i < n → getD l i 0 ≡ f i) → l ≡ table n f

@@ -1,0 +1,2 @@
+-- Bytes in hexadecimal.
+pub mod Digits
