@@ -1,4 +1,4 @@
-// Document 01's limits and lengths, as in specs/Limits.antt. Lengths are in bytes; a word is 4.
+// The limits and lengths of documents 01 and 02, as in specs/Limits.antt. Lengths are in bytes; a word is 4.
 
 // The ring.
 pub const PAGES_LEAST: usize = 3;
@@ -31,3 +31,8 @@ pub const NONCE_LENGTH: usize = 12;
 pub const TAG_LENGTH: usize = 16;
 
 pub const TEXT_LIMIT: usize = 65_536;
+
+// Images as Intel HEX, and the data bytes of an exported line.
+pub const IMAGE_LIMIT: usize = 262_144;
+
+pub const LINE_LENGTH: usize = 16;

@@ -1,3 +1,3 @@
--- Document 01's stops.
+-- The stops of documents 01 and 02.
 pub mod Stops
 pub mod View

@@ -1,8 +1,8 @@
--- What the code's answers mean: document 01's number of each stop.
+-- What the code's answers mean: the number of each stop, 1 to 14 in document 01 and from 15 on in document 02.
 use Prim.Native.Nat.{ℕ}
 use mathlib.Core.Option.{Option, none, some}
 use Rattle.stops.specs.declared.Stop.{Stop}
-use Rattle.stops.specs.declared.Stop.the-variants.{RingSize, FramSize, KeyNonceTagSize, BufferSize, RingInUse, RingBlank, RingUnreadable, StaleSession, PagePending, NonceUsed, BadHead, TagDiffers, RestartLimit, BadJob}
+use Rattle.stops.specs.declared.Stop.the-variants.{RingSize, FramSize, KeyNonceTagSize, BufferSize, RingInUse, RingBlank, RingUnreadable, StaleSession, PagePending, NonceUsed, BadHead, TagDiffers, RestartLimit, BadJob, BadLine, BadChecksum, BadAddress}
 use Rattle.stops.specs.declared.Check.{Check}
 use Rattle.stops.specs.declared.Check.the-variants.{Pass, Stopped}
 
@@ -21,6 +21,9 @@ stop-number BadHead = 11
 stop-number TagDiffers = 12
 stop-number RestartLimit = 13
 stop-number BadJob = 14
+stop-number BadLine = 15
+stop-number BadChecksum = 16
+stop-number BadAddress = 17
 
 -- what the checks say: the number of a stop, or none where all pass
 abbrev pub check-number : Check → Option ℕ

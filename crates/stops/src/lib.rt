@@ -1,9 +1,9 @@
-// Document 01's stops, by name, and the trying of conditions in its order.
+// The stops of documents 01 and 02, by name, and the trying of conditions in order.
 ghost use mathlib.Core.Path.{_≡_};
 ghost use Rattle.stops.specs.Stops.{then-stop};
 ghost use Rattle.stops.specs.View.{stop-number, check-number};
 
-// Why an operation stopped: document 01's numbers 1 to 14.
+// Why an operation stopped: document 01's numbers 1 to 14, and document 02's from 15 on.
 pub enum Stop {
     RingSize,
     FramSize,
@@ -19,6 +19,9 @@ pub enum Stop {
     TagDiffers,
     RestartLimit,
     BadJob,
+    BadLine,
+    BadChecksum,
+    BadAddress,
 }
 
 // What an operation's checks say.
@@ -27,7 +30,7 @@ pub enum Check {
     Stopped(Stop),
 }
 
-// Document 01's number of a stop.
+// The papers' number of a stop.
 pub fn stop_number(stop: Stop) -> u32
     ensures { λ r. ⌜ r ≡ stop-number stop ⌝ }
 {
@@ -46,6 +49,9 @@ pub fn stop_number(stop: Stop) -> u32
         Stop::TagDiffers => 12,
         Stop::RestartLimit => 13,
         Stop::BadJob => 14,
+        Stop::BadLine => 15,
+        Stop::BadChecksum => 16,
+        Stop::BadAddress => 17,
     }
 }
 

@@ -7,6 +7,12 @@ use Rattle.keeper_c.specs.Calls.{progress-number, session-after}
 use Rattle.keeper_c.proofs.calls.put_ended.Statement.{statement}
 use Rattle.keeper_c.proofs.calls.put_ended.Tie as tie
 
+returns : tie.Need-returns
+returns c =
+    let a = c .before .before .before .before .before .args in
+    let told = c .before .before .progress .given .1 in
+    (c .stop-number .ensures ∙ sym (ap (λ (p : Progress). progress-number (view-progress p)) told), sym (ap (λ (p : Progress). session-after (view-progress p) (view-session (a .made)) (a .session .now)) told))
+
 returns-3 : tie.Need-returns-3
 returns-3 c =
     let a = c .before .before .before .before .before .before .before .args in
@@ -30,7 +36,7 @@ put-ended-spec =
     (λ c κs. search needs)
     (λ c. search needs)
     (λ c κs. search needs)
-    (λ c. search needs)
+    returns
     (λ c. search needs)
     (λ c. search needs)
     returns-3
