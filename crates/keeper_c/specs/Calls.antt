@@ -14,6 +14,7 @@ use Rattle.checkpoint.specs.Fram.{fram-wrong}
 use Rattle.protocol.specs.Types.{Session, Stretch, Looked, Restarts, Unseen, Progress, GoingOn, Saved, Restored, Refused}
 use Rattle.protocol.specs.Calls.{Sizes, SaveArguments, FirstSave, Saves, PowersUp, Looks, Advances}
 use Rattle.protocol.specs.Operations.{Begin, Moved, staging-wrong, first-save-stop, first-save, save-stop, save, power-up-stop, power-up, look, open-stretch, job-wrong, advance}
+use Rattle.intel_hex.specs.Export.{Export, export}
 use Rattle.job_bytes.specs.Bytes.{job-length, session-length, job-bytes, session-bytes, job-in, session-in}
 
 -- 0, or the number of a stop
@@ -149,3 +150,21 @@ unfoldable pub advance-call : (ring fram : List ℕ) → Sizes → (staging job 
 advance-call ring fram z staging job session =
     let a = advances-in z job staging in
     advancing-by (advance-call-stop ring fram a session) (advance ring fram a) ring fram job session
+
+-- ---- images as Intel HEX (document 02, A.1)
+
+pub record Exporting : Type 0 where
+  pub answer : ℕ
+  pub text : List ℕ
+  pub written : ℕ
+
+abbrev pub exporting-left : ℕ → List ℕ → ℕ → Exporting
+exporting-left r text written = record { answer = r; text = text; written = written }
+
+-- from the stop, what the export leaves, and what stood behind the pointer
+abbrev pub exporting-by : Option ℕ → Export → ℕ → Exporting
+exporting-by (some n) e written = exporting-left n (e .text) written
+exporting-by none e written = exporting-left 0 (e .text) (e .written)
+
+unfoldable pub export-call : (image text : List ℕ) → ℕ → Exporting
+export-call image text written = let e = export image text in exporting-by (e .stop) e written

@@ -15,7 +15,7 @@ ghost use Rattle.protocol.specs.Operations.{wipe};
 ghost use Rattle.keeper_c.specs.Calls.{answer, sealing-call, sealing-left};
 
 // 0, or the number of the stop.
-fn answer(check: Check) -> u32
+pub(crate) fn answer(check: Check) -> u32
     ensures { λ r. ⌜ r ≡ answer (check-number check) ⌝ }
 {
     match check {

@@ -2,6 +2,7 @@
 // document 01's number of its stop, and a stop changes nothing behind a pointer.
 mod calls;
 mod cipher;
+mod hex;
 mod starts;
 
 pub use calls::keeper_advance;
@@ -9,6 +10,8 @@ pub use calls::keeper_look;
 pub use cipher::keeper_open;
 pub use cipher::keeper_seal;
 pub use cipher::keeper_wipe;
+pub use hex::keeper_hex_export;
+pub use hex::keeper_hex_import;
 pub use starts::keeper_first_save;
 pub use starts::keeper_power_up;
 pub use starts::keeper_save;

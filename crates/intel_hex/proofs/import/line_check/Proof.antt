@@ -1,0 +1,38 @@
+-- `intel_hex::import::line_check` meets its contract: the conditions tried in turn are the list's. Assumes nothing.
+use mathlib.Core.Path.{refl, ap, _∙_}
+use mathlib.Core.Bool.{_&&_}
+use mathlib.Core.List.{[], _∷_}
+use Prim.Native.Nat.{ℕ, _+_, _*_}
+use lib.Dec.{eqb}
+use borrow.Author.Needs.{needs}
+use Rattle.stops.proofs.Laws.{no-lines, one-more}
+use Rattle.intel_hex.specs.Lines.{data-line, segment}
+use Rattle.intel_hex.specs.Import.{misplaced}
+use Rattle.intel_hex.specs.Inner.{checks}
+use Rattle.intel_hex.proofs.import.line_check.Statement.{statement}
+use Rattle.intel_hex.proofs.import.line_check.Tie as tie
+
+returns : tie.Need-returns
+unfolding checks
+returns c =
+    let third = c .before in
+    let second = third .before in
+    let first = second .before in
+    let placed = first .before .before in
+    let a = placed .before .args in
+    let l = a .line in
+    let one = one-more [] 15 (a .reading .ended) _ _ _ no-lines refl (first .stop-if .ensures) in
+    let two = one-more ((15, a .reading .ended) ∷ []) 16 (a .wrong) _ _ _ one refl (second .stop-if2 .ensures) in
+    one-more ((15, a .reading .ended) ∷ (16, a .wrong) ∷ []) 17 (eqb (l .kind) data-line && misplaced (a .size) (a .reading .upper * segment + l .address) (l .address) (l .length) (a .reading .next)) _ _ _ two
+    (ap (λ t. eqb (l .kind) data-line && t) (third .misplaced .ensures ∙ ap (λ (p : ℕ). misplaced (a .size) p (l .address) (l .length) (a .reading .next)) (placed .data-place .ensures .0))) (c .stop-if3 .ensures)
+
+pub line-check-spec : {M : Type 1} → statement M
+line-check-spec =
+    tie.close
+    (tie.spec
+    (λ c κs. search needs)
+    (λ c κs. search needs)
+    (λ c κs. search needs)
+    (λ c κs. search needs)
+    (λ c κs. search needs)
+    returns)

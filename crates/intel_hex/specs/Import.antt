@@ -1,0 +1,144 @@
+-- Intel HEX read into an image (document 02, A.1): lines in either letter case, each closed by its line feed, with or without a carriage
+-- return before it. The first bad line decides, and of its stops the lowest.
+use Prim.Native.Nat.{ℕ, _+_, _-_, _*_}
+use mathlib.Core.Bool.{Bool, true, false, cond, not, _&&_, _||_}
+use mathlib.Core.Option.{Option, none, some}
+use mathlib.Core.List.{List, [], _∷_}
+use lib.Dec.{eqb, ltb}
+use lib.ListN.{length, take, drop, getD}
+use Rattle.octets.specs.Octets.{put}
+use Rattle.octets.specs.Table.{table}
+use Rattle.stops.specs.Stops.{first-of}
+use Rattle.stops.specs.View.{check-number}
+use Rattle.stops.specs.declared.Check.{Check}
+use Rattle.hex_digits.specs.Digits.{all-digits, pair}
+use Rattle.intel_hex.specs.Lines.{mark, line-feed, carriage-return, data-line, end-line, upper-line, segment, checksum}
+use Rattle.intel_hex.specs.Export.{image-wrong}
+use Rattle.intel_hex.specs.declared.import.Reading.{Reading}
+
+-- ---- the lines of a text
+
+-- a line without its line feed and the lines behind it, or what stands behind the last line feed
+pub data Lines : Type 0 where
+  line : List ℕ → Lines → Lines
+  rest : List ℕ → Lines
+
+abbrev pub longer : ℕ → Lines → Lines
+longer b (line l more) = line (b ∷ l) more
+longer b (rest s) = rest (b ∷ s)
+
+unfoldable pub lines-of : List ℕ → Lines
+lines-of [] = rest []
+lines-of (b ∷ s) = cond (eqb b line-feed) (line [] (lines-of s)) (longer b (lines-of s))
+
+-- a line without a carriage return at its end
+unfoldable pub bare : List ℕ → List ℕ
+bare l = cond (eqb (getD l (length l - 1) 0) carriage-return) (take (length l - 1) l) l
+
+-- ---- what a line says
+
+-- byte i of a line, and n bytes from i on
+abbrev pub byte-of : List ℕ → ℕ → ℕ
+byte-of l i = pair l (1 + 2 * i)
+
+abbrev pub bytes-of : List ℕ → ℕ → ℕ → List ℕ
+bytes-of l i n = table n (λ k. byte-of l (i + k))
+
+abbrev pub data-length : List ℕ → ℕ
+data-length l = byte-of l 0
+
+abbrev pub address : List ℕ → ℕ
+address l = byte-of l 1 * 256 + byte-of l 2
+
+abbrev pub kind : List ℕ → ℕ
+kind l = byte-of l 3
+
+abbrev pub data-bytes : List ℕ → List ℕ
+data-bytes l = bytes-of l 4 (data-length l)
+
+-- the number of the first two of them
+abbrev pub upper-bits : List ℕ → ℕ
+upper-bits l = getD (data-bytes l) 0 0 * 256 + getD (data-bytes l) 1 0
+
+-- a data line has data; the end line has none and a type 04 line two bytes, both with address 0
+abbrev pub shape-wrong : (kind n address : ℕ) → Bool
+shape-wrong k n a =
+    not ((eqb k data-line && ltb 0 n) || (eqb k end-line && eqb n 0 && eqb a 0) || (eqb k upper-line && eqb n 2 && eqb a 0))
+
+unfoldable pub malformed : List ℕ → Bool
+malformed l =
+    not (eqb (getD l 0 0) mark) || not (all-digits (drop 1 l)) || not (eqb (length l) (11 + 2 * data-length l))
+    || shape-wrong (kind l) (data-length l) (address l)
+
+unfoldable pub checksum-wrong : List ℕ → Bool
+checksum-wrong l = let n = 4 + data-length l in not (eqb (byte-of l n) (checksum (bytes-of l 0 n)))
+
+-- ---- one line after the other
+
+-- the upper address bits, the first address above the data so far, and whether the end line has been read
+abbrev pub start : Reading
+start = record { upper = 0; next = 0; ended = false }
+
+-- where the data of a line go
+abbrev pub data-place : Reading → List ℕ → ℕ
+data-place r l = r .upper * segment + address l
+
+-- outside an image of so many bytes, past the end of the segment, or not above the data before
+abbrev pub misplaced : (size place address n next : ℕ) → Bool
+misplaced size p a n next = ltb size (p + n) || ltb segment (a + n) || ltb p next
+
+unfoldable pub line-stop : ℕ → Reading → List ℕ → Option ℕ
+line-stop size r l = first-of (
+    (15, r .ended || malformed l) ∷
+    (16, checksum-wrong l) ∷
+    (17, eqb (kind l) data-line && misplaced size (data-place r l) (address l) (data-length l) (r .next)) ∷ [])
+
+unfoldable pub after : Reading → List ℕ → Reading
+after r l =
+    cond (eqb (kind l) data-line) (record { upper = r .upper; next = data-place r l + data-length l; ended = r .ended })
+    (cond (eqb (kind l) upper-line) (record { upper = upper-bits l; next = r .next; ended = r .ended })
+    (record { upper = r .upper; next = r .next; ended = true }))
+
+unfoldable pub image-after : Reading → List ℕ → List ℕ → List ℕ
+image-after r image l = cond (eqb (kind l) data-line) (put image (data-place r l) (data-bytes l)) image
+
+-- a line's stop, or what the lines behind it give
+abbrev pub or-else : Option ℕ → Option ℕ → Option ℕ
+or-else (some n) other = some n
+or-else none other = other
+
+abbrev pub empty : List ℕ → Bool
+empty [] = true
+empty (b ∷ s) = false
+
+-- the stop of a text for an image of so many bytes
+unfoldable pub text-stop : ℕ → Reading → Lines → Option ℕ
+text-stop size r (line l more) = or-else (line-stop size r (bare l)) (text-stop size (after r (bare l)) more)
+text-stop size r (rest s) = first-of ((15, not (r .ended) || not (empty s)) ∷ [])
+
+-- the image with the data of every line
+unfoldable pub stored : Reading → List ℕ → Lines → List ℕ
+stored r image (line l more) = stored (after r (bare l)) (image-after r image (bare l)) more
+stored r image (rest s) = image
+
+-- ---- the call
+
+unfoldable pub import-stop : (text image : List ℕ) → Option ℕ
+import-stop text image = or-else (first-of ((2, image-wrong (length image)) ∷ [])) (text-stop (length image) start (lines-of text))
+
+-- what an import answers, and what the image holds afterwards
+pub record Import : Type 0 where
+  pub stop : Option ℕ
+  pub image : List ℕ
+
+-- on a stop the image is as it was
+unfoldable pub import-by : Option ℕ → (text image : List ℕ) → Import
+import-by (some n) text image = record { stop = some n; image = image }
+import-by none text image = record { stop = none; image = stored start image (lines-of text) }
+
+unfoldable pub import : (text image : List ℕ) → Import
+import text image = import-by (import-stop text image) text image
+
+-- the code's answer, with what it left in the image
+abbrev pub imported-as : Check → List ℕ → Import
+imported-as r image = record { stop = check-number r; image = image }

@@ -1,0 +1,6 @@
+-- Intel HEX.
+pub mod Lines
+pub mod Export
+pub mod Import
+pub mod Names
+pub mod Inner

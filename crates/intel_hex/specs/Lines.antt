@@ -1,0 +1,35 @@
+-- A line of Intel HEX: a mark, and in hexadecimal the number of its data bytes, an address of two bytes, a type, the data and a checksum.
+use Prim.Native.Nat.{ℕ, _+_, _-_, _%_}
+use mathlib.Core.List.{List, [], _∷_}
+
+abbrev pub mark : ℕ
+mark = 0x3A
+
+abbrev pub line-feed : ℕ
+line-feed = 0x0A
+
+abbrev pub carriage-return : ℕ
+carriage-return = 0x0D
+
+-- the types
+abbrev pub data-line : ℕ
+data-line = 0
+
+abbrev pub end-line : ℕ
+end-line = 1
+
+-- its data are the upper 16 bits of the addresses that follow
+abbrev pub upper-line : ℕ
+upper-line = 4
+
+-- the addresses that the lower 16 bits tell apart
+abbrev pub segment : ℕ
+segment = 65536
+
+unfoldable pub sum : List ℕ → ℕ
+sum [] = 0
+sum (b ∷ s) = b + sum s
+
+-- the two's complement of a line's other bytes' sum, as a byte
+abbrev pub checksum : List ℕ → ℕ
+checksum s = (256 - sum s % 256) % 256

@@ -1,0 +1,186 @@
+// An image as a text of Intel HEX.
+use crate::line::DATA_LINE;
+use crate::line::END_LINE;
+use crate::line::LINE_FEED;
+use crate::line::MARK;
+use crate::line::SEGMENT;
+use crate::line::UPPER_LINE;
+use crate::line::image_wrong;
+use hex_digits::encode;
+use octets::limits::LINE_LENGTH;
+use stops::Check;
+use stops::Stop;
+ghost use mathlib.Core.Path.{_≡_};
+ghost use mathlib.Core.Bool.{false};
+ghost use mathlib.Core.List.{[], _∷_, _++_};
+ghost use Prim.Native.Nat.{_+_, _*_, _/_, _%_, _-_, _^_, _≤_, _<_, min};
+ghost use lib.ListN.{length};
+ghost use Rattle.octets.specs.Limits.{image-limit, line-length};
+ghost use Rattle.octets.specs.Octets.{bytes};
+ghost use Rattle.intel_hex.specs.Lines.{segment, sum};
+ghost use Rattle.intel_hex.specs.Export.{hex-line, upper-part, data-part, block, place, line-count, hex-text, image-wrong, export, exported-as};
+ghost use Rattle.intel_hex.specs.Inner.{text-length, Wrote};
+
+// What an export answers: the length of the text, or why it stopped, and then 0.
+pub struct Exported {
+    pub check: Check,
+    pub written: usize,
+}
+
+// The sum of bytes.
+fn sum(s: &[u8]) -> usize
+    requires { ⌜ length (now s) < 256 ⌝ }
+    ensures { λ r. ⌜ (r ≡ sum (now (s .entry))) × (r < 2 ^ 16) ⌝ }
+{
+    let mut total: usize = 0;
+    for i in 0..s.len() {
+        total += s[i] as usize;
+    }
+    total
+}
+
+// The checksum of bytes with this sum.
+fn checksum(total: usize) -> u8
+    ensures { λ r. ⌜ r ≡ (256 - total % 256) % 256 ⌝ }
+{
+    ((256 - total % 256) % 256) as u8
+}
+
+// The two bytes of a number, the higher first.
+fn two_bytes(n: usize) -> [u8; 2]
+    requires { ⌜ n < segment ⌝ }
+    ensures { λ r. ⌜ r ≡ bytes 2 n ⌝ }
+{
+    [(n / 256) as u8, (n % 256) as u8]
+}
+
+// The bytes that a line begins with: the number of its data bytes, its address and its type.
+fn line_head(n: usize, kind: u8, address: usize) -> [u8; 4]
+    requires { ⌜ (n < 256) × (address < segment) ⌝ }
+    ensures { λ r. ⌜ r ≡ n ∷ (bytes 2 address ++ (kind ∷ [])) ⌝ }
+{
+    let low = two_bytes(address);
+    [n as u8, low[0], low[1], kind]
+}
+
+// Writes a line to the front of out, and answers its length.
+fn put_line(out: &mut [u8], kind: u8, address: usize, s: &[u8]) -> usize
+    requires { ⌜ (length (now s) < 256) × (address < segment) × (12 + 2 * length (now s) ≤ length (now out)) ⌝ }
+    ensures { λ r. ⌜ Wrote (now (out .entry)) 0 (hex-line kind address (now (s .entry))) (now (out .exit)) r ⌝ }
+{
+    let n = s.len();
+    let head = line_head(n, kind, address);
+    let last = [checksum(sum(&head) + sum(s))];
+    out[0] = MARK;
+    encode(&head, out, 1);
+    encode(s, out, 9);
+    encode(&last, out, 9 + 2 * n);
+    out[11 + 2 * n] = LINE_FEED;
+    12 + 2 * n
+}
+
+// Writes a line from offset at on, and answers where it ends.
+fn put_line_at(text: &mut [u8], at: usize, kind: u8, address: usize, s: &[u8]) -> usize
+    requires { ⌜ (length (now s) < 256) × (address < segment) × (at + length (hex-line kind address (now s)) ≤ length (now text)) ⌝ }
+    ensures { λ r. ⌜ Wrote (now (text .entry)) at (hex-line kind address (now (s .entry))) (now (text .exit)) r ⌝ }
+{
+    at + put_line(&mut text[at..], kind, address, s)
+}
+
+// Writes the type 04 line before data line k, if there is one, from offset at on, and answers where it ends.
+fn put_upper(text: &mut [u8], at: usize, k: usize) -> usize
+    requires { ⌜ (place k < image-limit) × (at + length (upper-part k) ≤ length (now text)) ⌝ }
+    ensures { λ r. ⌜ Wrote (now (text .entry)) at (upper-part k) (now (text .exit)) r ⌝ }
+{
+    let from = LINE_LENGTH * k;
+    if from % SEGMENT != 0 {
+        return at;
+    }
+    let bits = two_bytes(from / SEGMENT);
+    put_line_at(text, at, UPPER_LINE, 0, &bits)
+}
+
+// Where the data line from an offset on ends in an image of n bytes.
+fn data_end(from: usize, n: usize) -> usize
+    requires { ⌜ from ≤ n ⌝ }
+    ensures { λ r. ⌜ r ≡ min (from + line-length) n ⌝ }
+{
+    if n - from < LINE_LENGTH {
+        n
+    } else {
+        from + LINE_LENGTH
+    }
+}
+
+// Writes data line k from offset at on, and answers where it ends.
+fn put_data(text: &mut [u8], at: usize, image: &[u8], k: usize) -> usize
+    requires { ⌜ (length (now image) ≤ image-limit) × (place k < length (now image)) × (at + length (data-part (now image) k) ≤ length (now text)) ⌝ }
+    ensures { λ r. ⌜ Wrote (now (text .entry)) at (data-part (now (image .entry)) k) (now (text .exit)) r ⌝ }
+{
+    let from = LINE_LENGTH * k;
+    let end = data_end(from, image.len());
+    put_line_at(text, at, DATA_LINE, from % SEGMENT, &image[from..end])
+}
+
+// Writes data line k with the type 04 line before it from offset at on, and answers where they end.
+fn put_block(text: &mut [u8], at: usize, image: &[u8], k: usize) -> usize
+    requires { ⌜ (length (now image) ≤ image-limit) × (place k < length (now image)) × (at + length (block (now image) k) ≤ length (now text)) ⌝ }
+    ensures { λ r. ⌜ Wrote (now (text .entry)) at (block (now (image .entry)) k) (now (text .exit)) r ⌝ }
+{
+    let next = put_upper(text, at, k);
+    put_data(text, next, image, k)
+}
+
+// How many data lines n bytes make.
+fn line_count(n: usize) -> usize
+    requires { ⌜ n ≤ image-limit ⌝ }
+    ensures { λ r. ⌜ r ≡ line-count n ⌝ }
+{
+    (n + (LINE_LENGTH - 1)) / LINE_LENGTH
+}
+
+// How long the text of an image of n bytes is.
+fn text_length(n: usize) -> usize
+    requires { ⌜ n ≤ image-limit ⌝ }
+    ensures { λ r. ⌜ r ≡ text-length n ⌝ }
+{
+    let uppers = (n + (SEGMENT - 1)) / SEGMENT;
+    16 * uppers + (12 * line_count(n) + 2 * n) + 12
+}
+
+// Writes the text of an image to the front of a buffer that has room for it, and answers its length.
+fn put_text(image: &[u8], text: &mut [u8]) -> usize
+    requires { ⌜ (image-wrong (length (now image)) ≡ false) × (length (hex-text (now image)) ≤ length (now text)) ⌝ }
+    ensures { λ r. ⌜ Wrote (now (text .entry)) 0 (hex-text (now (image .entry))) (now (text .exit)) r ⌝ }
+{
+    let n = line_count(image.len());
+    let mut at = 0;
+    for k in 0..n {
+        at = put_block(text, at, image, k);
+    }
+    put_line_at(text, at, END_LINE, 0, b"")
+}
+
+// Writes an image as Intel HEX to the front of text. On a stop text stays as it was.
+pub fn export_image(image: &[u8], text: &mut [u8]) -> Exported
+    ensures { λ r. ⌜ exported-as r (now (text .exit)) ≡ export (now (image .entry)) (now (text .entry)) ⌝ }
+{
+    let n = image.len();
+    if image_wrong(n) {
+        return Exported {
+            check: Check::Stopped(Stop::FramSize),
+            written: 0,
+        };
+    }
+    if text.len() < text_length(n) {
+        return Exported {
+            check: Check::Stopped(Stop::BufferSize),
+            written: 0,
+        };
+    }
+    let written = put_text(image, text);
+    Exported {
+        check: Check::Pass,
+        written,
+    }
+}
