@@ -27,6 +27,7 @@ demo: kit
 
 bench: kit
 	@rt staticlib keeper_c
+	@rt check hex_export hex_import > /dev/null
 	@sh hosts/bench/run.sh
 
 kit:

@@ -1,19 +1,23 @@
 /*
- * Times the keeper's calls, and its sealing and opening beside BearSSL, mbedTLS and OpenSSL; measures the stack that its calls use; and
- * writes docs/PERFORMANCE.md. hosts/bench/run.sh builds and runs it: bench PAGE FACTS SIZES SYMBOLS
+ * Times the keeper's calls, its sealing and opening beside BearSSL, mbedTLS and OpenSSL, and its Intel HEX beside binutils and SRecord;
+ * measures the stack that its calls use; and writes docs/PERFORMANCE.md. hosts/bench/run.sh builds and runs it:
+ * bench PAGE FACTS SIZES SYMBOLS PROGRAMS FOLDER
  */
 #define _GNU_SOURCE
 #include "bench.h"
 #include "keeper.h"
+#include <fcntl.h>
 #include <mbedtls/gcm.h>
 #include <openssl/evp.h>
 #include <sched.h>
+#include <spawn.h>
 #include <stdarg.h>
 #include <stdio.h>
 #include <stdlib.h>
 #include <string.h>
 #include <sys/resource.h>
 #include <sys/utsname.h>
+#include <sys/wait.h>
 #include <time.h>
 #include <ucontext.h>
 #include <unistd.h>
@@ -180,6 +184,154 @@ static void compare(const struct size *s)
             m->key();
         need(!m->open(s), m->name);
         tag[15] ^= 1;
+    }
+}
+
+/* ---- Intel HEX: an image, the text of its export, and what was imported from it */
+
+uint8_t image[262144], imported[262144];
+static uint8_t hex[KEEPER_HEX_SIZE(sizeof image)];
+
+enum { EXPORT, IMPORT, WAYS };
+
+static size_t our_export(const uint8_t **text)
+{
+    size_t n;
+    *text = hex;
+    return keeper_hex_export(image, sizeof image, hex, sizeof hex, &n) == 0 ? n : 0;
+}
+
+static int our_import(const uint8_t *text, size_t len)
+{
+    return keeper_hex_import(text, len, imported, sizeof imported) == 0;
+}
+
+static const struct converter {
+    const char *name;
+    size_t (*export)(const uint8_t **);
+    int (*import)(const uint8_t *, size_t);
+} converters[] = {
+    {"Godwitshelf", our_export, our_import},
+    {"libbfd", bfd_export, bfd_import},
+};
+
+/* The programs, run in FOLDER, where the image is image.bin and its text image.hex. Ours read standard input and write standard output. */
+static char export_path[4096], import_path[4096];
+static const char *folder;
+
+static const struct program {
+    const char *name;
+    const char *words[WAYS][9];
+} programs[] = {
+    {"Godwitshelf's `hex_export`, `hex_import`", {{export_path}, {import_path, "262144"}}},
+    {"SRecord's `srec_cat`",
+     {{"srec_cat", "image.bin", "-binary", "-output", "out", "-intel", "-output-block-size=16"},
+      {"srec_cat", "image.hex", "-intel", "-output", "out", "-binary"}}},
+    {"binutils' `objcopy`",
+     {{"objcopy", "-I", "binary", "-O", "ihex", "image.bin", "out"}, {"objcopy", "-I", "ihex", "-O", "binary", "image.hex", "out"}}},
+    {"`cp`, a copy of the same input", {{"cp", "image.bin", "out"}, {"cp", "image.hex", "out"}}},
+};
+
+enum { COPY = COUNT(programs) - 1 };
+
+static const char *in_folder(const char *name)
+{
+    static char path[4096];
+    need(snprintf(path, sizeof path, "%s/%s", folder, name) < (int)sizeof path, folder);
+    return path;
+}
+
+static void put_file(const char *name, const uint8_t *bytes, size_t n)
+{
+    FILE *f = fopen(in_folder(name), "w");
+    need(f && fwrite(bytes, 1, n, f) == n && fclose(f) == 0, in_folder(name));
+}
+
+static size_t get_file(const char *name, uint8_t *bytes, size_t room)
+{
+    FILE *f = fopen(in_folder(name), "r");
+    need(f != NULL, in_folder(name));
+    size_t n = fread(bytes, 1, room, f);
+    need(!ferror(f) && fgetc(f) == EOF, in_folder(name));
+    fclose(f);
+    return n;
+}
+
+/* Runs a program and waits for its end. */
+static void run(const struct program *p, int way)
+{
+    extern char **environ;
+    posix_spawn_file_actions_t a;
+    pid_t child;
+    int status;
+    posix_spawn_file_actions_init(&a);
+    posix_spawn_file_actions_addchdir_np(&a, folder);
+    posix_spawn_file_actions_addopen(&a, 0, way == EXPORT ? "image.bin" : "image.hex", O_RDONLY, 0);
+    posix_spawn_file_actions_addopen(&a, 1, p == programs ? "out" : "/dev/null", O_WRONLY | O_CREAT | O_TRUNC, 0600);
+    need(posix_spawnp(&child, p->words[way][0], &a, NULL, (char **)p->words[way], environ) == 0, p->name);
+    need(waitpid(child, &status, 0) == child && status == 0, p->name);
+    posix_spawn_file_actions_destroy(&a);
+}
+
+/* The data lines of a text, without carriage returns: binutils writes these, and other lines for the upper address bits. */
+static size_t data_lines(const uint8_t *text, size_t n, uint8_t *lines)
+{
+    size_t kept = 0, next;
+    for (size_t start = 0; start < n; start = next) {
+        for (next = start; next < n && text[next] != '\n'; next++)
+            ;
+        next += next < n;
+        for (size_t i = start; i < next && next - start > 9 && memcmp(text + start + 7, "00", 2) == 0; i++)
+            if (text[i] != '\r')
+                lines[kept++] = text[i];
+    }
+    return kept;
+}
+
+static void same_lines(const uint8_t *text, size_t n, const char *name)
+{
+    static uint8_t ours[sizeof hex], theirs[4 * sizeof image];
+    need(n <= sizeof theirs, name);
+    size_t kept = data_lines(hex, sizeof hex, ours);
+    need(data_lines(text, n, theirs) == kept && memcmp(theirs, ours, kept) == 0, name);
+}
+
+/* Whether a text with one digit changed is refused. libbfd says so on standard error, which is closed meanwhile. */
+static int refuses(const struct converter *m)
+{
+    int kept = dup(2);
+    need(kept >= 0 && close(2) == 0, "no standard error");
+    hex[sizeof hex - 20] ^= 1;
+    int taken = m->import(hex, sizeof hex);
+    hex[sizeof hex - 20] ^= 1;
+    need(dup2(kept, 2) == 2 && close(kept) == 0, "no standard error");
+    return !taken;
+}
+
+/* All must export the same data lines and import the image; in memory, all must refuse a text with one digit changed. */
+static void compare_hex(void)
+{
+    static uint8_t file[4 * sizeof image];
+    const uint8_t *text;
+    need(our_export(&text) == sizeof hex, "keeper_hex_export stopped");
+    for (size_t i = 0; i < COUNT(converters); i++) {
+        const struct converter *m = &converters[i];
+        size_t n = m->export(&text);
+        same_lines(text, n, m->name);
+        memset(imported, 0, sizeof imported);
+        need(m->import(hex, sizeof hex) && memcmp(imported, image, sizeof image) == 0, m->name);
+        need(refuses(m), m->name);
+    }
+    put_file("image.bin", image, sizeof image);
+    put_file("image.hex", hex, sizeof hex);
+    for (size_t i = 0; i < COUNT(programs); i++) {
+        run(&programs[i], EXPORT);
+        size_t n = get_file("out", file, sizeof file);
+        if (i != COPY)
+            same_lines(file, n, programs[i].name);
+        run(&programs[i], IMPORT);
+        n = get_file("out", file, sizeof file);
+        need(i == COPY || (n == sizeof image && memcmp(file, image, n) == 0), programs[i].name);
     }
 }
 
@@ -401,6 +553,52 @@ static void time_calls(int round)
         }
 }
 
+static struct times hex_times[WAYS][COUNT(converters)], program_times[WAYS][COUNT(programs)];
+
+static double hex_time(const struct converter *m, int way, unsigned calls)
+{
+    const uint8_t *text;
+    int good = 1;
+    double start = now();
+    for (unsigned i = 0; i < calls; i++)
+        good &= way == EXPORT ? m->export(&text) > 0 : m->import(hex, sizeof hex);
+    double time = (now() - start) / calls;
+    need(good, m->name);
+    return time;
+}
+
+static double program_time(const struct program *p, int way, unsigned runs)
+{
+    double sum = 0;
+    for (unsigned i = 0; i < runs; i++) {
+        unlink(in_folder("out"));
+        double start = now();
+        run(p, way);
+        sum += now() - start;
+    }
+    return sum / runs;
+}
+
+/* A program has this core in turn with this process, so that its preemptions are not counted. */
+static void time_hex(int round)
+{
+    compare_hex();
+    for (int way = 0; way < WAYS; way++) {
+        for (size_t i = 0; i < COUNT(converters); i++)
+            for (int tries = 0; tries < TRIES; tries++) {
+                preempted();
+                double once = hex_time(&converters[i], way, 3);
+                hex_times[way][i].of[round] = hex_time(&converters[i], way, 1 + 1e6 / once);
+                if (!preempted())
+                    break;
+            }
+        for (size_t i = 0; i < COUNT(programs); i++) {
+            double once = program_time(&programs[i], way, 1);
+            program_times[way][i].of[round] = program_time(&programs[i], way, 1 + 1e7 / once);
+        }
+    }
+}
+
 /* ---- the stack: each call runs on one of its own, which is painted first */
 
 #define PAINT 0xa5a5a5a5a5a5a5a5u
@@ -454,14 +652,26 @@ static uint32_t wipe(void)
     return 0;
 }
 
+static uint32_t export_largest(void)
+{
+    const uint8_t *text;
+    return our_export(&text) == 0;
+}
+
+static uint32_t import_largest(void)
+{
+    return !our_import(hex, sizeof hex);
+}
+
 static struct {
     const char *name;
     uint32_t (*call)(void);
     size_t bytes;
 } depths[] = {
-    {"keeper_seal", seal_largest, 0},     {"keeper_open", open_largest, 0}, {"keeper_wipe", wipe, 0},
-    {"keeper_first_save", first_save, 0}, {"keeper_save", save, 0},         {"keeper_power_up", power_up, 0},
-    {"keeper_advance", advance, 0},       {"keeper_look", look, 0},
+    {"keeper_seal", seal_largest, 0},         {"keeper_open", open_largest, 0},         {"keeper_wipe", wipe, 0},
+    {"keeper_first_save", first_save, 0},     {"keeper_save", save, 0},                 {"keeper_power_up", power_up, 0},
+    {"keeper_advance", advance, 0},           {"keeper_look", look, 0},                 {"keeper_hex_export", export_largest, 0},
+    {"keeper_hex_import", import_largest, 0},
 };
 
 /* Notes how deep a call goes, and hands on its answer. */
@@ -492,6 +702,7 @@ static void measure_stack(void)
     fill_page(3, 2, 4096);
     compare(&sizes[COUNT(sizes) - 1]);
     need(measured(seal_largest) == 0 && measured(open_largest) == 0 && measured(wipe) == 0 && measured(look) == 0, "a call stopped");
+    need(measured(export_largest) == 0 && measured(import_largest) == 0, "an export or import stopped");
     measure_job(save, KEEPER_SAVED);
     restore();
     need(save() == 0, "a save stopped");
@@ -565,11 +776,51 @@ static void print_calls(void)
         }
 }
 
+static void print_hex(void)
+{
+    static const char *const names[WAYS] = {"export", "import"};
+    out("\n## Intel HEX\n\n"
+        "An image of 262,144 bytes to its text of 720,972 bytes, and back. In each round, before the clock starts, all must export the same\n"
+        "data lines and import the image, and in memory refuse a text with one digit changed.\n\n"
+        "What is not alike: Godwitshelf judges the whole text before it stores a byte. Godwitshelf and SRecord write type 04 lines and line\n"
+        "feeds; binutils, at this size, writes type 02 lines, and a carriage return before each line feed. libbfd is binutils' library: its\n"
+        "text is written to a file in memory and read from memory. SRecord and binutils take many formats, and images with gaps of any size.\n\n"
+        "### In memory\n\n"
+        "Nanoseconds for a byte of the image: best · median · **ratio of the best to ours**; and megabytes of the image in a second, at best.\n"
+        "Turns as for sealing.\n\n"
+        "| | export | MB/s | import | MB/s |\n");
+    columns(2 * WAYS);
+    for (size_t i = 0; i < COUNT(converters); i++) {
+        out("| %s |", converters[i].name);
+        for (int way = 0; way < WAYS; way++) {
+            const struct times *t = &hex_times[way][i];
+            double b = best(t) / sizeof image;
+            out(" %.2f · %.2f · **%.2f** | %.0f |", b, median(t) / sizeof image, best(t) / best(&hex_times[way][OURS]), 1e3 / b);
+        }
+        out("\n");
+    }
+    out("\n### As programs\n\n"
+        "Milliseconds from a program's start to its end, best · median · **ratio of the best to ours**, each for ten milliseconds in a turn,\n"
+        "with the files in one folder. The last row is what a process and its files take with no conversion.\n\n|");
+    for (int way = 0; way < WAYS; way++)
+        out(" | %s", names[way]);
+    out(" |\n");
+    columns(WAYS);
+    for (size_t i = 0; i < COUNT(programs); i++) {
+        out("| %s |", programs[i].name);
+        for (int way = 0; way < WAYS; way++) {
+            const struct times *t = &program_times[way][i];
+            out(" %.2f · %.2f · **%.2f** |", best(t) / 1e6, median(t) / 1e6, best(t) / best(&program_times[way][OURS]));
+        }
+        out("\n");
+    }
+}
+
 static void print_depths(void)
 {
     out("\n## Stack\n\n"
         "Bytes that a call writes below its caller's frame, arguments and callees included, at parts of 4,096 bytes and in every phase of a\n"
-        "job. Measured on a painted stack, not proved.\n\n| call | bytes |\n");
+        "job, or with an image of 262,144. Measured on a painted stack, not proved.\n\n| call | bytes |\n");
     columns(1);
     for (size_t i = 0; i < COUNT(depths); i++)
         out("| `%s` | %zu |\n", depths[i].name, depths[i].bytes);
@@ -667,14 +918,19 @@ int main(int argc, char **argv)
 {
     double load[2];
     cpu_set_t one;
-    need(argc == 5, "usage: bench PAGE FACTS SIZES SYMBOLS");
+    need(argc == 7, "usage: bench PAGE FACTS SIZES SYMBOLS PROGRAMS FOLDER");
     read_sizes(argv[3]);
+    snprintf(export_path, sizeof export_path, "%s/hex_export", argv[5]);
+    snprintf(import_path, sizeof import_path, "%s/hex_import", argv[5]);
+    folder = argv[6];
     for (size_t i = 0; i < sizeof key; i++)
         key[i] = i;
     for (size_t i = 0; i < sizeof aad; i++)
         aad[i] = 7 * i + 1;
     for (size_t i = 0; i < sizeof text; i++)
         text[i] = 5 * i + 3;
+    for (uint32_t i = 0; i < sizeof image; i++)
+        image[i] = i * 2654435761u >> 24;
     CPU_ZERO(&one);
     CPU_SET(sysconf(_SC_NPROCESSORS_ONLN) - 1, &one);
     need(sched_setaffinity(0, sizeof one, &one) == 0, "no core to pin to");
@@ -684,6 +940,7 @@ int main(int argc, char **argv)
     for (int round = 0; round < ROUNDS; round++) {
         time_ciphers(round);
         time_calls(round);
+        time_hex(round);
     }
     getloadavg(&load[1], 1);
 
@@ -718,6 +975,7 @@ int main(int argc, char **argv)
     print_ciphers(SEAL_ALONE, "Sealing, without the key schedule");
     print_ciphers(OPEN_ALONE, "Opening, without the key schedule");
     print_calls();
+    print_hex();
     print_depths();
     print_sizes();
     need(fclose(page) == 0, argv[1]);

@@ -1,4 +1,4 @@
-/* What bench.c and bearssl.c share: the work, and how an implementation of AES-256-GCM does it. */
+/* What bench.c, bearssl.c and bfd.c share: the work, and how another library does it. */
 #include <stddef.h>
 #include <stdint.h>
 
@@ -15,3 +15,8 @@ extern uint8_t key[32], nonce[12], aad[4124], text[4096], sealed[4096], opened[4
 void bear_small(void), bear_ct64(void), bear_big32(void), bear_big64(void), bear_seal(const struct size *);
 void fast_ct64(void), fast_big32(void), fast_seal(const struct size *);
 int bear_open(const struct size *), fast_open(const struct size *);
+
+/* Exporting makes an Intel HEX text of image and answers its length, or 0; importing turns a text into imported. By libbfd, in bfd.c: */
+extern uint8_t image[262144], imported[262144];
+size_t bfd_export(const uint8_t **);
+int bfd_import(const uint8_t *, size_t);

@@ -1,13 +1,14 @@
 #!/bin/sh
-# Builds bench.c with the keeper's archive and Debian's BearSSL, mbedTLS and OpenSSL, runs it, and writes docs/PERFORMANCE.md.
-# `make bench` runs it at the top of the repository, when target/staticlib/libkeeper_c.a is there.
+# Builds bench.c with the keeper's archive and Debian's BearSSL, mbedTLS, OpenSSL and libbfd, runs it beside SRecord's and binutils'
+# programs too, and writes docs/PERFORMANCE.md. `make bench` runs it at the top of the repository, when target/staticlib/libkeeper_c.a,
+# target/bin/hex_export and target/bin/hex_import are there.
 set -eu
 unset OPENSSL_ia32cap
 here=hosts/bench
 work=target/bench
 keeper=target/staticlib/libkeeper_c.a
-packages="libbearssl-dev libmbedtls-dev libssl-dev"
-mkdir -p $work
+packages="libbearssl-dev libmbedtls-dev libssl-dev binutils-dev srecord"
+mkdir -p $work/hex
 
 missing=
 for p in $packages; do
@@ -19,11 +20,18 @@ lib=$(dirname "$(dpkg -L libbearssl-dev | grep '/libbearssl\.a$')")
 # BearSSL once more, compiled for speed from Debian's source, all but the functions of bearssl.c made local to one object.
 source_of_bearssl() {
     [ -d $work/bearssl/src ] && return
-    mkdir -p $work/lists/partial $work/bearssl
-    . /etc/os-release
-    echo "deb-src http://deb.debian.org/debian $VERSION_CODENAME main" >$work/sources.list
-    set -- -qq -o Dir::Etc::sourcelist="$PWD/$work/sources.list" -o Dir::Etc::sourceparts=- -o Dir::State::lists="$PWD/$work/lists"
-    apt-get "$@" update && (cd $work && apt-get "$@" source --download-only bearssl) &&
+    mkdir -p $work/lists/partial $work/sources $work/bearssl
+    # The machine's own sources of packages, taken as sources of source packages; those that have none are passed over.
+    for list in /etc/apt/sources.list /etc/apt/sources.list.d/*; do
+        [ -f "$list" ] || continue
+        case $list in
+        *.list) sed -n 's/^deb[[:blank:]]/deb-src /p' "$list" >"$work/sources/${list##*/}" ;;
+        *.sources) sed 's/^Types:.*/Types: deb-src/' "$list" >"$work/sources/${list##*/}" ;;
+        esac
+    done
+    set -- -qq -o Dir::Etc::sourcelist=/dev/null -o Dir::Etc::sourceparts="$PWD/$work/sources" -o Dir::State::lists="$PWD/$work/lists"
+    apt-get "$@" update || true
+    (cd $work && apt-get "$@" source --download-only bearssl) &&
         tar -xf $work/bearssl_*.orig.tar.* -C $work/bearssl --strip-components=1
 }
 fast=
@@ -38,8 +46,8 @@ if source_of_bearssl >$work/source.log 2>&1; then
     fast="-DFAST $work/fast.o"
 fi
 
-gcc -std=c11 -O2 -Wall -Wextra -Ihosts/c -o $work/bench $here/bench.c $here/bearssl.c $fast $keeper $lib/libbearssl.a $lib/libmbedcrypto.a \
-    $lib/libcrypto.a -Wl,--wrap=mbedtls_aesni_has_support -Wl,-z,now
+gcc -std=c11 -O2 -Wall -Wextra -Ihosts/c -o $work/bench $here/bench.c $here/bearssl.c $here/bfd.c $fast $keeper $lib/libbearssl.a \
+    $lib/libmbedcrypto.a $lib/libcrypto.a -lbfd -Wl,--wrap=mbedtls_aesni_has_support -Wl,-z,now
 
 # Bytes of code and constants that a program gets which calls the functions named.
 linked() {
@@ -54,6 +62,7 @@ bear="br_gcm_init br_gcm_reset br_gcm_aad_inject br_gcm_flip br_gcm_run br_gcm_g
 {
     linked "Godwitshelf, every call" $keeper $(nm -g --defined-only $keeper | awk '$2 == "T" { print $3 }')
     linked "Godwitshelf, sealing and opening" $keeper keeper_seal keeper_open
+    linked "Godwitshelf, Intel HEX" $keeper keeper_hex_export keeper_hex_import
     linked "BearSSL small + ctmul32, sealing and opening" $lib/libbearssl.a $bear br_aes_small_ctr_init br_ghash_ctmul32
     linked "BearSSL ct64 + ctmul64, sealing and opening" $lib/libbearssl.a $bear br_aes_ct64_ctr_init br_ghash_ctmul64
     linked "BearSSL big + ctmul32, sealing and opening" $lib/libbearssl.a $bear br_aes_big_ctr_init br_ghash_ctmul32
@@ -66,6 +75,6 @@ bear="br_gcm_init br_gcm_reset br_gcm_aad_inject br_gcm_flip br_gcm_run br_gcm_g
 } >$work/facts
 symbols=$(nm -u $keeper | awk '$1 == "U" { print $2 }' | sort -u | tr '\n' ' ')
 
-$work/bench $work/PERFORMANCE.md $work/facts $work/sizes "${symbols% }"
+$work/bench $work/PERFORMANCE.md $work/facts $work/sizes "${symbols% }" "$PWD/target/bin" $work/hex
 mv $work/PERFORMANCE.md docs/PERFORMANCE.md
 cat docs/PERFORMANCE.md

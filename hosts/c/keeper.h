@@ -32,7 +32,7 @@
  *
  * The answers
  * keeper_wipe answers nothing; keeper_advance answers 256 and up or a stop; every other call answers 0 or a stop. A stop changes nothing in
- * the caller's memory. The lowest number that applies is given.
+ * the caller's memory. The lowest number that applies is given; of a text, the lowest that applies to its first bad line.
  *
  * Not proved: time (the costs below are those of the source; AES looks up tables at places that depend on key and data), and what is left
  * on the stack.
@@ -50,10 +50,11 @@ extern "C" {
 enum keeper_answer {
     KEEPER_DONE = 0,
     KEEPER_RING_SIZE = 1,           /* pages, slots or the ring's length wrong */
-    KEEPER_FRAM_SIZE = 2,           /* the FRAM's length wrong */
+    KEEPER_FRAM_SIZE = 2,           /* the length of the FRAM, or of an image to export or import, wrong */
     KEEPER_KEY_NONCE_TAG_SIZE = 3,  /* key not 32, nonce not 12 or tag not 16 bytes */
-    KEEPER_BUFFER_SIZE = 4,         /* a part not a multiple of 4 bytes, above 4,096, or the checkpoint longer than a half; staging, state or
-                                       output too short; a session buffer to be written not 40 bytes; text or associated data above 65,536 */
+    KEEPER_BUFFER_SIZE = 4,         /* a part not a multiple of 4 bytes, above 4,096, or the checkpoint longer than a half; staging, state,
+                                       output or a text buffer too short; a session buffer to be written not 40 bytes; text or associated data
+                                       above 65,536 */
     KEEPER_RING_IN_USE = 5,         /* first save: the ring is not blank */
     KEEPER_RING_BLANK = 6,          /* the ring is wholly blank: a new unit, or an erased flash */
     KEEPER_RING_UNREADABLE = 7,     /* the ring is not readable */
@@ -67,6 +68,9 @@ enum keeper_answer {
     KEEPER_BAD_JOB = 14,            /* the job is done; its length, half, page, slot or word is out of its range; at a record the target is not
                                        blank; or the job buffer is not 56 bytes or has an unknown phase or origin. An old copy of a job, or
                                        one of another unit, is not found out by this. */
+    KEEPER_BAD_LINE = 15,           /* import: a malformed line, another type than 00, 01 and 04, a line after the end line, or no end line */
+    KEEPER_BAD_CHECKSUM = 16,       /* import: a line's checksum is wrong */
+    KEEPER_BAD_ADDRESS = 17,        /* import: data outside the image, past a 64 KiB boundary within a line, or not above the data before */
 
     KEEPER_GOING_ON = 256,          /* keeper_advance: more stores to come */
     KEEPER_SAVED = 257,             /* keeper_advance: done; a save's checkpoint is the newest */
@@ -158,6 +162,26 @@ uint32_t keeper_look(size_t pages, size_t slots, const uint8_t *ring, size_t rin
 uint32_t keeper_advance(size_t pages, size_t slots, uint8_t *ring, size_t ring_len,
                      uint8_t *fram, size_t fram_len, const uint8_t *staging, size_t staging_len,
                      uint8_t *job, size_t job_len, uint8_t *session, size_t session_len);
+
+/* An image as Intel HEX, for a programmer: uppercase lines of 16 data bytes (the last may be shorter), a type 04 line first and again
+ * whenever the upper 16 address bits change, and the end line; a line feed closes each. The image is 1 to 262,144 bytes, of a FRAM or of
+ * any other memory. *written is the text's length, KEEPER_HEX_SIZE(image_len); the bytes of `text` after it keep their contents.
+ * Stops: 2, 4. Cost: one pass over the image.
+ */
+uint32_t keeper_hex_export(const uint8_t *image, size_t image_len, uint8_t *text, size_t text_len, size_t *written);
+
+/* The length of the export of an image of 1 to 262,144 bytes; 720,972 at the most. */
+#define KEEPER_HEX_SIZE(image_len) \
+    (2 * (image_len) + 12 * (((image_len) + 15) / 16) + 16 * (((image_len) + 65535) / 65536) + 12)
+
+/* Reads Intel HEX into an image of 1 to 262,144 bytes; bytes that no data line names keep their contents. The export of an image of the
+ * same length restores that image.
+ * Digits are of either letter case, and a line closes with a line feed, which may have one carriage return before it. Types: 00 with 1 to
+ * 255 data bytes; 04 with two and 01, the end line, with none, both with address 0000. The upper 16 address bits are 0 until a type 04
+ * line, and such lines may repeat them or go back; the addresses of data rise from line to line. An empty line is malformed.
+ * Stops: 2, 15 to 17. Cost: one pass over the text to judge it and one to store.
+ */
+uint32_t keeper_hex_import(const uint8_t *text, size_t text_len, uint8_t *image, size_t image_len);
 
 /* Zeroes a buffer of any length. Optimisation at link time may drop it where nothing reads the buffer any more. */
 void keeper_wipe(uint8_t *buffer, size_t buffer_len);

@@ -55,6 +55,9 @@ extern "C" {
     fn keeper_advance(pages: usize, slots: usize, ring: *mut u8, ring_len: usize,
         fram: *mut u8, fram_len: usize, staging: *const u8, staging_len: usize,
         job: *mut u8, job_len: usize, session: *mut u8, session_len: usize) -> u32;
+    fn keeper_hex_export(image: *const u8, image_len: usize, text: *mut u8, text_len: usize,
+        written: *mut usize) -> u32;
+    fn keeper_hex_import(text: *const u8, text_len: usize, image: *mut u8, image_len: usize) -> u32;
     fn keeper_wipe(buffer: *mut u8, buffer_len: usize);
 }
 
@@ -143,6 +146,18 @@ pub fn advance(
         keeper_advance(sizes.pages, sizes.slots, ring.as_mut_ptr(), ring.len(), fram.as_mut_ptr(), fram.len(),
             staging.as_ptr(), staging.len(), job.as_mut_ptr(), job.len(), session.as_mut_ptr(), session.len())
     }
+}
+
+/// Writes the image as Intel HEX to the front of `text`, and the text's length into `written`.
+pub fn hex_export(image: &[u8], text: &mut [u8], written: &mut usize) -> u32 {
+    // Sound: see the top of this file.
+    unsafe { keeper_hex_export(image.as_ptr(), image.len(), text.as_mut_ptr(), text.len(), written) }
+}
+
+/// Reads Intel HEX into the image.
+pub fn hex_import(text: &[u8], image: &mut [u8]) -> u32 {
+    // Sound: see the top of this file.
+    unsafe { keeper_hex_import(text.as_ptr(), text.len(), image.as_mut_ptr(), image.len()) }
 }
 
 /// Zeroes a buffer of any length.

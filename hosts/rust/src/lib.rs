@@ -17,6 +17,8 @@
 //! What the keeper asks of a unit: one key and one set of sizes for its life, a nonce never used twice, one job at a
 //! time, advanced with the staging buffer as its start left it, and nobody else writing to the memories.
 //!
+//! [`hex_export`] and [`hex_import`] carry an image of either memory to a programmer and back, as Intel HEX.
+//!
 //! The code behind these calls is proved. This crate hands slices on as they are, and has no checks of its own.
 //!
 //! # A unit that saves, is restarted and resumes
@@ -270,6 +272,63 @@ pub fn advance(
         calls::RESTORED => Ok(Progress::Restored(Session(session))),
         number => Err(stop(number)),
     }
+}
+
+/// Writes an image of 1 to 262,144 bytes as Intel HEX to the front of `text`, and answers the text's length, which is
+/// [`hex_len`]. The rest of `text` keeps its contents.
+///
+/// Lines are uppercase, of 16 data bytes (the last may be shorter). A type 04 line comes first and again whenever the
+/// upper 16 address bits change; the end line closes.
+///
+/// # Errors
+///
+/// [`Stop::FramSize`], [`Stop::BufferSize`].
+///
+/// # An image to the programmer and back
+///
+/// ```
+/// use godwitshelf::*;
+///
+/// # fn main() -> Result<(), Stop> {
+/// let image = *b"volume 3, timer 09";
+/// let mut text = [0; hex_len(18)];
+/// hex_export(&image, &mut text)?;
+/// let lines = [
+///     ":020000040000FA\n",
+///     ":10000000766F6C756D6520332C2074696D65722078\n",
+///     ":02001000303985\n",
+///     ":00000001FF\n",
+/// ];
+/// assert_eq!(text, lines.concat().as_bytes());
+///
+/// let mut back = [0; 18];
+/// hex_import(&text, &mut back)?;
+/// assert_eq!(back, image);
+/// # Ok(())
+/// # }
+/// ```
+pub fn hex_export(image: &[u8], text: &mut [u8]) -> Result<usize, Stop> {
+    let mut written = 0;
+    done(calls::hex_export(image, text, &mut written))?;
+    Ok(written)
+}
+
+/// How long the export of an image of 1 to 262,144 bytes is; 720,972 at the most. Worked out here, for callers that
+/// make the buffer; [`hex_export`] does not use it.
+pub const fn hex_len(image_len: usize) -> usize {
+    2 * image_len + 12 * image_len.div_ceil(16) + 16 * image_len.div_ceil(65_536) + 12
+}
+
+/// Reads Intel HEX into an image of 1 to 262,144 bytes. Bytes that no data line names keep their contents.
+///
+/// Digits are of either letter case, and a line feed may have one carriage return before it. Types are 00, 01 and 04;
+/// the upper 16 address bits are 0 until a type 04 line; the addresses of data rise.
+///
+/// # Errors
+///
+/// [`Stop::FramSize`], [`Stop::BadLine`], [`Stop::BadChecksum`], [`Stop::BadAddress`].
+pub fn hex_import(text: &[u8], image: &mut [u8]) -> Result<(), Stop> {
+    done(calls::hex_import(text, image))
 }
 
 /// Zeroes a buffer of any length.

@@ -1,19 +1,19 @@
 use std::error::Error;
 use std::fmt;
 
-/// Why a call stopped. The conditions are tried in the order of their numbers, those that name the call only; the
-/// first that applies is answered, and no buffer changes.
+/// Why a call stopped. The conditions are tried in the order of their numbers, those that name the call only, and 15 to
+/// 17 line by line; the first that applies is answered, and no buffer changes.
 #[derive(Clone, Copy, Debug, PartialEq, Eq, Hash, PartialOrd, Ord)]
 #[repr(u32)]
 pub enum Stop {
     /// 1: pages, slots or the ring's length wrong.
     RingSize = 1,
-    /// 2: the FRAM's length wrong.
+    /// 2: the length of the FRAM, or of an image to export or import, wrong.
     FramSize,
     /// 3: key not 32, nonce not 12 or tag not 16 bytes.
     KeyNonceTagSize,
-    /// 4: a part not a multiple of 4 bytes, above 4,096, or the checkpoint longer than a half; staging, state or output
-    /// too short; text or associated data above 65,536 bytes.
+    /// 4: a part not a multiple of 4 bytes, above 4,096, or the checkpoint longer than a half; staging, state, output or
+    /// an export's text buffer too short; text or associated data above 65,536 bytes.
     BufferSize,
     /// 5: the ring is not blank.
     RingInUse,
@@ -36,11 +36,17 @@ pub enum Stop {
     /// 14: the job is done; its length is not a multiple of 4, below 44 or above the half; its page, slot, half or word
     /// is out of its range; or at a record the target is not blank.
     BadJob,
+    /// 15: a malformed line, another type than 00, 01 and 04, any line after the end line, or no end line.
+    BadLine,
+    /// 16: a line's checksum is wrong.
+    BadChecksum,
+    /// 17: data outside the image, past a 64 KiB boundary within a line, or not above the data before.
+    BadAddress,
 }
 
 impl Stop {
     /// Every stop, in the order in which they are tried.
-    pub const ALL: [Stop; 14] = [
+    pub const ALL: [Stop; 17] = [
         Stop::RingSize,
         Stop::FramSize,
         Stop::KeyNonceTagSize,
@@ -55,9 +61,12 @@ impl Stop {
         Stop::TagDiffers,
         Stop::RestartLimit,
         Stop::BadJob,
+        Stop::BadLine,
+        Stop::BadChecksum,
+        Stop::BadAddress,
     ];
 
-    /// The stop's number, 1 to 14.
+    /// The stop's number, 1 to 17.
     pub const fn number(self) -> u32 {
         self as u32
     }
@@ -70,11 +79,11 @@ impl Stop {
     fn words(self) -> &'static str {
         match self {
             Stop::RingSize => "pages, slots or ring length wrong",
-            Stop::FramSize => "FRAM length wrong",
+            Stop::FramSize => "FRAM or image length wrong",
             Stop::KeyNonceTagSize => "key not 32, nonce not 12 or tag not 16 bytes",
             Stop::BufferSize => {
                 "a part not a multiple of 4 bytes, above 4,096, or the checkpoint longer than a half; \
-                 staging, state or output too short; text or associated data above 65,536"
+                 staging, state, output or text buffer too short; text or associated data above 65,536"
             }
             Stop::RingInUse => "ring not blank",
             Stop::RingBlank => "ring wholly blank",
@@ -88,6 +97,13 @@ impl Stop {
             Stop::BadJob => {
                 "job done; length not a multiple of 4, below 44 or above the half; \
                  page, slot, half or word out of its range; or at a record the target is not blank"
+            }
+            Stop::BadLine => {
+                "malformed line, another type than 00, 01 and 04, a line after the end line, or no end line"
+            }
+            Stop::BadChecksum => "line checksum wrong",
+            Stop::BadAddress => {
+                "data outside the image, past a 64 KiB boundary within a line, or not above the data before"
             }
         }
     }
@@ -106,10 +122,10 @@ mod tests {
     use super::*;
 
     #[test]
-    fn numbers_are_1_to_14_and_lead_back() {
-        for number in 0..20 {
+    fn numbers_are_1_to_17_and_lead_back() {
+        for number in 0..30 {
             let stop = Stop::from_number(number);
-            assert_eq!(stop.map(Stop::number), (1..=14).contains(&number).then_some(number));
+            assert_eq!(stop.map(Stop::number), (1..=17).contains(&number).then_some(number));
         }
     }
 
