@@ -12,7 +12,7 @@ use Rattle.stops.specs.Stops.{first-of}
 use Rattle.stops.specs.View.{check-number}
 use Rattle.stops.specs.declared.Check.{Check}
 use Rattle.hex_digits.specs.Digits.{all-digits, pair}
-use Rattle.intel_hex.specs.Lines.{mark, line-feed, carriage-return, data-line, end-line, upper-line, segment, checksum}
+use Rattle.intel_hex.specs.Lines.{mark, line-feed, carriage-return, data-line, end-line, upper-line, segment, line-width, checksum}
 use Rattle.intel_hex.specs.Export.{image-wrong}
 use Rattle.intel_hex.specs.declared.import.Reading.{Reading}
 
@@ -67,7 +67,7 @@ shape-wrong k n a =
 
 unfoldable pub malformed : List ℕ → Bool
 malformed l =
-    not (eqb (getD l 0 0) mark) || not (all-digits (drop 1 l)) || not (eqb (length l) (11 + 2 * data-length l))
+    not (eqb (getD l 0 0) mark) || not (all-digits (drop 1 l)) || not (eqb (length l) (line-width (data-length l)))
     || shape-wrong (kind l) (data-length l) (address l)
 
 unfoldable pub checksum-wrong : List ℕ → Bool

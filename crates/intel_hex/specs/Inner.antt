@@ -10,7 +10,7 @@ use Rattle.octets.specs.Octets.{part, put}
 use Rattle.stops.specs.Stops.{first-of}
 use Rattle.stops.specs.View.{check-number}
 use Rattle.hex_digits.specs.Digits.{all-digits, decoded}
-use Rattle.intel_hex.specs.Lines.{mark, line-feed, carriage-return, data-line, segment, sum}
+use Rattle.intel_hex.specs.Lines.{mark, line-feed, carriage-return, data-line, segment, line-width, sum}
 use Rattle.intel_hex.specs.Export.{line-count}
 use Rattle.intel_hex.specs.Import.{data-length, address, kind, shape-wrong, checksum-wrong, misplaced, or-else, text-stop, lines-of}
 use Rattle.intel_hex.specs.declared.import.Reading.{Reading}
@@ -34,9 +34,9 @@ pub record Wrote (text : List ℕ) (at : ℕ) (bytes text′ : List ℕ) (end : 
 
 -- ---- import
 
--- how many digits and bytes of a line that s begins with stand before its end
+-- where the line that s begins with ends
 abbrev pub line-end : List ℕ → ℕ
-line-end s = 11 + 2 * data-length s
+line-end s = line-width (data-length s)
 
 -- how many bytes end a line at offset i: a line feed, or a carriage return and a line feed; 0 where neither stands there
 unfoldable pub end-length : List ℕ → ℕ → ℕ

@@ -1,5 +1,5 @@
 -- A line of Intel HEX: a mark, and in hexadecimal the number of its data bytes, an address of two bytes, a type, the data and a checksum.
-use Prim.Native.Nat.{ℕ, _+_, _-_, _%_}
+use Prim.Native.Nat.{ℕ, _+_, _-_, _*_, _%_}
 use mathlib.Core.List.{List, [], _∷_}
 
 abbrev pub mark : ℕ
@@ -25,6 +25,10 @@ upper-line = 4
 -- the addresses that the lower 16 bits tell apart
 abbrev pub segment : ℕ
 segment = 65536
+
+-- the mark and the digits of a line of n data bytes
+abbrev pub line-width : ℕ → ℕ
+line-width n = 11 + 2 * n
 
 unfoldable pub sum : List ℕ → ℕ
 sum [] = 0

@@ -1,6 +1,9 @@
 // An image as a text of Intel HEX.
+use crate::line::DATA_AT;
 use crate::line::DATA_LINE;
 use crate::line::END_LINE;
+use crate::line::LEAST_FED;
+use crate::line::LEAST_LINE;
 use crate::line::LINE_FEED;
 use crate::line::MARK;
 use crate::line::SEGMENT;
@@ -73,10 +76,10 @@ fn put_line(out: &mut [u8], kind: u8, address: usize, s: &[u8]) -> usize
     let last = [checksum(sum(&head) + sum(s))];
     out[0] = MARK;
     encode(&head, out, 1);
-    encode(s, out, 9);
-    encode(&last, out, 9 + 2 * n);
-    out[11 + 2 * n] = LINE_FEED;
-    12 + 2 * n
+    encode(s, out, DATA_AT);
+    encode(&last, out, DATA_AT + 2 * n);
+    out[LEAST_LINE + 2 * n] = LINE_FEED;
+    LEAST_FED + 2 * n
 }
 
 // Writes a line from offset at on, and answers where it ends.
@@ -139,13 +142,13 @@ fn line_count(n: usize) -> usize
     (n + (LINE_LENGTH - 1)) / LINE_LENGTH
 }
 
-// How long the text of an image of n bytes is.
+// How long the text of an image of n bytes is. A type 04 line has 16 bytes with its line feed.
 fn text_length(n: usize) -> usize
     requires { ⌜ n ≤ image-limit ⌝ }
     ensures { λ r. ⌜ r ≡ text-length n ⌝ }
 {
     let uppers = (n + (SEGMENT - 1)) / SEGMENT;
-    16 * uppers + (12 * line_count(n) + 2 * n) + 12
+    16 * uppers + (LEAST_FED * line_count(n) + 2 * n) + LEAST_FED
 }
 
 // Writes the text of an image to the front of a buffer that has room for it, and answers its length.

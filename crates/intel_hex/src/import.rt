@@ -1,6 +1,8 @@
 // A text of Intel HEX read into an image: one pass judges the text, and one stores its data.
+use crate::line::DATA_AT;
 use crate::line::DATA_LINE;
 use crate::line::Found;
+use crate::line::LEAST_LINE;
 use crate::line::Line;
 use crate::line::SEGMENT;
 use crate::line::UPPER_LINE;
@@ -102,7 +104,7 @@ fn after(s: &[u8], line: Line, reading: Reading) -> Reading
     }
     if line.kind == UPPER_LINE {
         return Reading {
-            upper: number(s, 9),
+            upper: number(s, DATA_AT),
             next: reading.next,
             ended: reading.ended,
         };
@@ -119,7 +121,7 @@ fn line_length(line: Line) -> usize
     requires { ⌜ (line .length < 256) × (line .tail < 3) ⌝ }
     ensures { λ r. ⌜ r ≡ 11 + 2 * line .length + line .tail ⌝ }
 {
-    11 + 2 * line.length + line.tail
+    LEAST_LINE + 2 * line.length + line.tail
 }
 
 // One line more, which s begins with, for an image of so many bytes.
@@ -168,7 +170,7 @@ fn store_line(s: &[u8], line: Line, reading: Reading, image: &mut [u8])
     if line.kind == DATA_LINE {
         let place = data_place(reading, line.address);
         let n = line.length;
-        decode(rest(s, 9), n, &mut image[place..]);
+        decode(rest(s, DATA_AT), n, &mut image[place..]);
     }
 }
 

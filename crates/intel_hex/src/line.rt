@@ -28,6 +28,13 @@ pub const UPPER_LINE: u8 = 4;
 // How many addresses the lower 16 bits tell apart.
 pub const SEGMENT: usize = 65_536;
 
+// Where the digits of the data begin, the length of a line without data, and the same with its line feed.
+pub const DATA_AT: usize = 9;
+
+pub const LEAST_LINE: usize = 11;
+
+pub const LEAST_FED: usize = 12;
+
 // The numbers that a line begins with, and how many bytes end it: 0 where it has no end.
 pub struct Line {
     pub length: usize,
@@ -92,7 +99,7 @@ pub fn line_of(s: &[u8]) -> Line
         length,
         address: number(s, 3),
         kind: pair(s, 7),
-        tail: end_length(s, 11 + 2 * length),
+        tail: end_length(s, LEAST_LINE + 2 * length),
     }
 }
 
@@ -127,7 +134,7 @@ fn digit_sum(s: &[u8]) -> Summed
 pub fn line_at(s: &[u8]) -> Found
     ensures { λ r. ⌜ FoundIn (now (s .entry)) r ⌝ }
 {
-    if s.len() < 9 {
+    if s.len() < DATA_AT {
         return Found::Malformed;
     }
     if s[0] != MARK {
