@@ -70,7 +70,7 @@ enum keeper_answer {
                                        one of another unit, is not found out by this. */
     KEEPER_BAD_LINE = 15,           /* import: a malformed line, another type than 00, 01 and 04, a line after the end line, or no end line */
     KEEPER_BAD_CHECKSUM = 16,       /* import: a line's checksum is wrong */
-    KEEPER_BAD_ADDRESS = 17,        /* import: data outside the image, past a 64 KiB boundary within a line, or not above the data before */
+    KEEPER_DATA_MISPLACED = 17,     /* import: data outside the image, past a 64 KiB boundary within a line, or not above the data before */
 
     KEEPER_GOING_ON = 256,          /* keeper_advance: more stores to come */
     KEEPER_SAVED = 257,             /* keeper_advance: done; a save's checkpoint is the newest */

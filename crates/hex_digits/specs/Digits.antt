@@ -10,7 +10,8 @@ use Rattle.octets.specs.Table.{table}
 abbrev pub is-digit : ℕ → Bool
 is-digit c = (leb 0x30 c && leb c 0x39) || (leb 0x41 c && leb c 0x46) || (leb 0x61 c && leb c 0x66)
 
--- the value of a digit: the letters stand from 0x41 and 0x61 on; a byte that is no digit has some value too
+-- the value of a digit: 0 to 9 stand from 0x30 on; the letters stand from 0x41 and 0x61 on, so A and a end in 1 and get 9 more. A byte that is
+-- no digit has some value too.
 abbrev pub digit-value : ℕ → ℕ
 digit-value c = (c % 16 + c / 64 * 9) % 16
 

@@ -45,7 +45,7 @@ pub fn decode(s: &[u8], n: usize, out: &mut [u8])
     }
 }
 
-// Writes the digits of the bytes s over those of out from offset at on.
+// Writes the digits of s over the bytes of out from offset at on.
 pub fn encode(s: &[u8], out: &mut [u8], at: usize)
     requires { ⌜ at + 2 * length (now s) ≤ length (now out) ⌝ }
     ensures { λ _. ⌜ now (out .exit) ≡ put (now (out .entry)) at (encoded (now (s .entry))) ⌝ }

@@ -2,7 +2,7 @@
 -- Assumes nothing.
 use mathlib.Core.Path.{_≡_, refl, sym, ap, ap₂, _∙_}
 use mathlib.Core.Bool.{Bool, true, false, cond}
-use mathlib.Core.Option.{none, some}
+use mathlib.Core.Option.{Option, none, some}
 use mathlib.Core.List.{List, [], _∷_, _++_, append-assoc}
 use Prim.Native.Nat.{ℕ, zero, suc, _+_, _-_, _*_, _/_, _%_, _≤_, _<_, min}
 use native.Mathlib.Nat.{add-zero, mul-div-mul-left}
@@ -12,15 +12,16 @@ use lib.Dec.{lit<, eqb, ltb}
 use lib.ListN.{length, take, drop, getD, set, length-append, length-take, length-drop, take-append-drop}
 use lib.Seq.{take-suc, take-all}
 use borrow.Author.Tests.{eqb-true, eqb-false, eq-eqb, ne-eqb, ltb-true, ltb-false}
-use Rattle.octets.specs.Limits.{image-limit, line-length}
+use Rattle.octets.specs.Limits.{image-limit, data-per-line}
 use Rattle.octets.specs.Octets.{part, put, bytes}
+use Rattle.octets.proofs.Laws.{put-front}
 use Rattle.octets.proofs.Numbers.{length-bytes}
 use Rattle.octets.proofs.Lent.{put-on, set-put, set-on, Front, front-on}
 use Rattle.stops.specs.Stops.{first-of}
 use Rattle.stops.proofs.Laws.{neither}
 use Rattle.hex_digits.specs.Digits.{encoded}
 use Rattle.hex_digits.proofs.Laws.{length-encoded, encoded-append}
-use Rattle.intel_hex.specs.Lines.{mark, line-feed, data-line, end-line, upper-line, segment, sum, checksum}
+use Rattle.intel_hex.specs.Format.{mark, line-feed, data-line, end-line, upper-line, boundary, sum, checksum}
 use Rattle.intel_hex.specs.Export.{line-bytes, hex-line, place, upper, upper-changes, upper-part, data-part, block, blocks, line-count, hex-text, image-wrong, export-stop, export-by, export}
 use Rattle.intel_hex.specs.Inner.{text-length, Wrote}
 use Rattle.intel_hex.proofs.Sums.{sum-append}
@@ -100,30 +101,30 @@ module _ (kind address : ℕ) (s : List ℕ) where
 -- ---- the upper address bits
 
 -- they change where the lower ones are 0
-upper-changes-is : (k : ℕ) → upper-changes k ≡ eqb (place k % segment) 0
-upper-changes-is k = go (eqb (place k % segment) 0) refl (eqb k 0) refl
+upper-changes-is : (k : ℕ) → upper-changes k ≡ eqb (place k % boundary) 0
+upper-changes-is k = go (eqb (place k % boundary) 0) refl (eqb k 0) refl
   where
-    go : (t : Bool) → eqb (place k % segment) 0 ≡ t → (f : Bool) → eqb k 0 ≡ f → upper-changes k ≡ t
+    go : (t : Bool) → eqb (place k % boundary) 0 ≡ t → (f : Bool) → eqb k 0 ≡ f → upper-changes k ≡ t
     go true e true f = rw f refl
     go true e false f =
-        let low = eqb-true (place k % segment) 0 e in
+        let low = eqb-true (place k % boundary) 0 e in
         let some = eqb-false k 0 f in
         rw (f, ne-eqb (upper k) (upper (k - 1)) (λ same. omega arith)) refl
-    go false e true f = absurd (eqb-false (place k % segment) 0 e (let z : k ≡ 0 = eqb-true k 0 f in omega arith))
+    go false e true f = absurd (eqb-false (place k % boundary) 0 e (let z : k ≡ 0 = eqb-true k 0 f in omega arith))
     go false e false f =
-        let low = eqb-false (place k % segment) 0 e in
+        let low = eqb-false (place k % boundary) 0 e in
         let some = eqb-false k 0 f in
         rw (f, eq-eqb (upper k) (upper (k - 1)) (omega arith)) refl
 
-upper-by : (k : ℕ) (t : Bool) → eqb (place k % segment) 0 ≡ t → upper-part k ≡ cond t (hex-line upper-line 0 (bytes 2 (upper k))) []
+upper-by : (k : ℕ) (t : Bool) → eqb (place k % boundary) 0 ≡ t → upper-part k ≡ cond t (hex-line upper-line 0 (bytes 2 (upper k))) []
 unfolding upper-part
 upper-by k t e = ap (λ (b : Bool). cond b (hex-line upper-line 0 (bytes 2 (upper k))) []) (upper-changes-is k ∙ e)
 
-pub upper-some : (k : ℕ) → place k % segment ≡ 0 → upper-part k ≡ hex-line upper-line 0 (bytes 2 (upper k))
-upper-some k e = upper-by k true (eq-eqb (place k % segment) 0 e)
+pub upper-some : (k : ℕ) → place k % boundary ≡ 0 → upper-part k ≡ hex-line upper-line 0 (bytes 2 (upper k))
+upper-some k e = upper-by k true (eq-eqb (place k % boundary) 0 e)
 
-pub upper-none : (k : ℕ) → (place k % segment ≡ 0 → ⊥) → upper-part k ≡ []
-upper-none k e = upper-by k false (ne-eqb (place k % segment) 0 e)
+pub upper-none : (k : ℕ) → (place k % boundary ≡ 0 → ⊥) → upper-part k ≡ []
+upper-none k e = upper-by k false (ne-eqb (place k % boundary) 0 e)
 
 -- ---- the data
 
@@ -138,47 +139,47 @@ part-to xs i n e m h = go (ltb (length xs) (i + n)) refl
         take-all (e - i) (drop i xs) (rw length-drop (omega arith)) ∙ sym (take-all n (drop i xs) (rw length-drop (omega arith)))
     go false l = let l′ = ltb-false (length xs) (i + n) l in ap (λ (m : ℕ). take m (drop i xs)) (let z : e - i ≡ n = omega arith in z)
 
-pub data-part-is : (image : List ℕ) (k e : ℕ) → e ≡ min (place k + line-length) (length image) → place k ≤ length image
-    → hex-line data-line (place k % segment) (take (e - place k) (drop (place k) image)) ≡ data-part image k
+pub data-part-is : (image : List ℕ) (k e : ℕ) → e ≡ min (place k + data-per-line) (length image) → place k ≤ length image
+    → hex-line data-line (place k % boundary) (take (e - place k) (drop (place k) image)) ≡ data-part image k
 unfolding data-part
-data-part-is image k e m h = ap (hex-line data-line (place k % segment)) (part-to image (place k) line-length e m h)
+data-part-is image k e m h = ap (hex-line data-line (place k % boundary)) (part-to image (place k) data-per-line e m h)
 
 -- ---- lengths
 
 -- how many data lines have the same upper address bits, and how many type 04 lines stand before data line k
-abbrev segment-lines : ℕ
-segment-lines = segment / line-length
+abbrev same-upper : ℕ
+same-upper = boundary / data-per-line
 
 abbrev pub uppers : ℕ → ℕ
-uppers k = (k + (segment-lines - 1)) / segment-lines
+uppers k = (k + (same-upper - 1)) / same-upper
 
 pub length-upper : (k : ℕ) → 16 * uppers k + length (upper-part k) ≡ 16 * uppers (suc k)
-length-upper k = go (eqb (place k % segment) 0) refl
+length-upper k = go (eqb (place k % boundary) 0) refl
   where
     q : ℕ
-    q = k / segment-lines
+    q = k / same-upper
 
     same : upper k ≡ q
-    same = mul-div-mul-left k segment-lines (lit< tt)
+    same = mul-div-mul-left k same-upper (lit< tt)
 
     next : uppers (suc k) ≡ q + 1
     next = omega arith
 
-    go : (t : Bool) → eqb (place k % segment) 0 ≡ t → 16 * uppers k + length (upper-part k) ≡ 16 * uppers (suc k)
+    go : (t : Bool) → eqb (place k % boundary) 0 ≡ t → 16 * uppers k + length (upper-part k) ≡ 16 * uppers (suc k)
     go true e =
-        let low : place k % segment ≡ 0 = eqb-true (place k % segment) 0 e in
+        let low : place k % boundary ≡ 0 = eqb-true (place k % boundary) 0 e in
         let line : length (upper-part k) ≡ 16 = ap length (upper-by k true e) ∙ length-hex-line upper-line 0 (bytes 2 (upper k)) ∙ ap (λ (n : ℕ). 12 + 2 * n) (length-bytes 2 (upper k)) in
-        let first : k % segment-lines ≡ 0 = omega (arith, same) in
+        let first : k % same-upper ≡ 0 = omega (arith, same) in
         let this : uppers k ≡ q = omega arith in
         omega (arith, next)
     go false e =
-        let low = eqb-false (place k % segment) 0 e in
+        let low = eqb-false (place k % boundary) 0 e in
         let line : length (upper-part k) ≡ 0 = ap length (upper-by k false e) in
-        let inside : 0 < k % segment-lines = omega (arith, same) in
+        let inside : 0 < k % same-upper = omega (arith, same) in
         let this : uppers k ≡ q + 1 = omega arith in
         omega (arith, next)
 
-pub length-data : (image : List ℕ) (k : ℕ) → length (data-part image k) ≡ 12 + 2 * min line-length (length image - place k)
+pub length-data : (image : List ℕ) (k : ℕ) → length (data-part image k) ≡ 12 + 2 * min data-per-line (length image - place k)
 unfolding data-part part
 length-data image k = simp (length-hex-line, length-take, length-drop)
 
@@ -192,7 +193,7 @@ pub text-length-is : (image : List ℕ) → length (hex-text image) ≡ text-len
 unfolding hex-text
 text-length-is image =
     let n : ℕ = length image in
-    let u : uppers (line-count n) ≡ (n + (segment - 1)) / segment = omega arith in
+    let u : uppers (line-count n) ≡ (n + (boundary - 1)) / boundary = omega arith in
     simp length-append (omega (arith, length-blocks image (line-count n), length-hex-line end-line 0 []))
 
 -- data line k fits, with those before it
@@ -214,6 +215,16 @@ text-whole image k e = ap (λ (m : ℕ). blocks image m ++ hex-line end-line 0 [
 
 pub image-fits : (n : ℕ) → image-wrong n ≡ false → n ≤ image-limit
 image-fits n e = ltb-false image-limit n (neither (eqb n 0) (ltb image-limit n) e .1)
+
+-- what it says that it wrote lies in the buffer
+written-within : (o : Option ℕ) (image text : List ℕ) → export-by o image text .written ≤ length (export-by o image text .text)
+unfolding export-by
+written-within (some n) image text = omega arith
+written-within none image text = simp (put-front, length-append) (omega arith)
+
+pub export-within : (image text : List ℕ) → export image text .written ≤ length (export image text .text)
+unfolding export
+export-within image text = written-within (export-stop image text) image text
 
 -- what it answers, by its tests
 pub answered : (image text : List ℕ) (wrong short : Bool) → image-wrong (length image) ≡ wrong → ltb (length text) (length (hex-text image)) ≡ short

@@ -15,7 +15,7 @@ use Rattle.octets.proofs.Tables.{getD-table, table-ext}
 use Rattle.stops.specs.Stops.{first-of}
 use Rattle.stops.proofs.Laws.{passes, neither}
 use Rattle.hex_digits.specs.Digits.{digit-value, pair, decoded}
-use Rattle.intel_hex.specs.Lines.{data-line, upper-line, segment}
+use Rattle.intel_hex.specs.Format.{data-line, upper-line, boundary}
 use Rattle.intel_hex.specs.Export.{image-wrong}
 use Rattle.intel_hex.specs.Import.{lines-of, byte-of, data-length, address, kind, data-bytes, upper-bits, shape-wrong, checksum-wrong, data-place, misplaced, start, after, image-after, or-else, text-stop, stored, import-stop, import-by, import}
 use Rattle.intel_hex.specs.Inner.{Begins, checks}
@@ -104,8 +104,8 @@ pub record Placed (size place n next : ℕ) : Type 0 where
 
 pub well-placed : (size place address n next : ℕ) → misplaced size place address n next ≡ false → Placed size place n next
 well-placed size p a n next e =
-    let o = neither (ltb size (p + n) || ltb segment (a + n)) (ltb p next) e in
-    record { fits = ltb-false size (p + n) (neither (ltb size (p + n)) (ltb segment (a + n)) (o .0) .0); rises = ltb-false p next (o .1) }
+    let o = neither (ltb size (p + n) || ltb boundary (a + n)) (ltb p next) e in
+    record { fits = ltb-false size (p + n) (neither (ltb size (p + n)) (ltb boundary (a + n)) (o .0) .0); rises = ltb-false p next (o .1) }
 
 -- what is known of a line of a text that passes
 pub record Passed (size : ℕ) (r : Reading) (s : List ℕ) : Type 0 where

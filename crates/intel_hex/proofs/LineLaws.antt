@@ -20,7 +20,7 @@ use Rattle.stops.specs.Stops.{first-of}
 use Rattle.stops.proofs.Laws.{neither}
 use Rattle.hex_digits.specs.Digits.{is-digit, digit-value, all-digits, pair, decoded}
 use Rattle.hex_digits.proofs.Laws.{digit-at}
-use Rattle.intel_hex.specs.Lines.{mark, line-feed, carriage-return, data-line, upper-line, segment, sum, checksum}
+use Rattle.intel_hex.specs.Format.{mark, line-feed, carriage-return, data-line, upper-line, boundary, sum, checksum}
 use Rattle.intel_hex.specs.Import.{Lines, line, rest, longer, lines-of, bare, byte-of, bytes-of, data-length, address, kind, data-bytes, shape-wrong, malformed, checksum-wrong, misplaced, line-stop, after, image-after, or-else, empty, text-stop, stored}
 use Rattle.intel_hex.specs.Inner.{line-end, end-length, Begins, checks}
 use Rattle.intel_hex.specs.declared.import.Reading.{Reading}
@@ -407,22 +407,22 @@ module _ (s : List ℕ) (u : Begun s) where
   unfolding line-stop checks
   line-checks size r =
       let e = u .same in
-      ap (λ (t : Bool). first-of ((15, t) ∷ (16, checksum-wrong (bare (u .raw))) ∷ (17, eqb (kind (bare (u .raw))) data-line && misplaced size (r .upper * segment + address (bare (u .raw))) (address (bare (u .raw))) (data-length (bare (u .raw))) (r .next)) ∷ []))
+      ap (λ (t : Bool). first-of ((15, t) ∷ (16, checksum-wrong (bare (u .raw))) ∷ (17, eqb (kind (bare (u .raw))) data-line && misplaced size (r .upper * boundary + address (bare (u .raw))) (address (bare (u .raw))) (data-length (bare (u .raw))) (r .next)) ∷ []))
       (or-false (r .ended) (malformed (bare (u .raw))) (u .good))
-      ∙ sym (λ i. first-of ((15, r .ended) ∷ (16, e .checksum i) ∷ (17, eqb (e .kind i) data-line && misplaced size (r .upper * segment + e .address i) (e .address i) (e .length i) (r .next)) ∷ []))
+      ∙ sym (λ i. first-of ((15, r .ended) ∷ (16, e .checksum i) ∷ (17, eqb (e .kind i) data-line && misplaced size (r .upper * boundary + e .address i) (e .address i) (e .length i) (r .next)) ∷ []))
 
   after-line : (r : Reading) → after r (bare (u .raw)) ≡ after r s
   unfolding after
   after-line r =
       let e = u .same in
       sym (λ i.
-      cond (eqb (e .kind i) data-line) (record { upper = r .upper; next = r .upper * segment + e .address i + e .length i; ended = r .ended })
+      cond (eqb (e .kind i) data-line) (record { upper = r .upper; next = r .upper * boundary + e .address i + e .length i; ended = r .ended })
       (cond (eqb (e .kind i) upper-line) (record { upper = getD (e .bytes i) 0 0 * 256 + getD (e .bytes i) 1 0; next = r .next; ended = r .ended })
       (record { upper = r .upper; next = r .next; ended = true })))
 
   image-line : (r : Reading) (image : List ℕ) → image-after r image (bare (u .raw)) ≡ image-after r image s
   unfolding image-after
-  image-line r image = let e = u .same in sym (λ i. cond (eqb (e .kind i) data-line) (put image (r .upper * segment + e .address i) (e .bytes i)) image)
+  image-line r image = let e = u .same in sym (λ i. cond (eqb (e .kind i) data-line) (put image (r .upper * boundary + e .address i) (e .bytes i)) image)
 
   pub stop-on : (size : ℕ) (r : Reading)
       → text-stop size r (lines-of s) ≡ or-else (checks size r (kind s) (address s) (data-length s) (checksum-wrong s)) (text-stop size (after r s) (lines-of (drop (line-size s) s)))

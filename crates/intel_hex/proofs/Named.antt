@@ -1,4 +1,4 @@
--- An accepted text leaves precisely the bytes that its data lines name. Assumes nothing.
+-- After an accepted import the image holds each byte that a data line names, and everywhere else what it held. Assumes nothing.
 use mathlib.Core.Path.{_≡_, refl, sym, ap, subst, _∙_}
 use mathlib.Core.Bool.{Bool, true, false, _&&_, _||_}
 use mathlib.Core.Option.{Option, none, some}
@@ -14,7 +14,7 @@ use Rattle.octets.proofs.Laws.{length-put, put-before, put-within, put-after}
 use Rattle.octets.proofs.Tables.{length-table, getD-table}
 use Rattle.stops.specs.Stops.{first-of}
 use Rattle.stops.proofs.Laws.{passes}
-use Rattle.intel_hex.specs.Lines.{data-line, upper-line}
+use Rattle.intel_hex.specs.Format.{data-line, upper-line}
 use Rattle.intel_hex.specs.Export.{image-wrong}
 use Rattle.intel_hex.specs.Import.{Lines, line, rest, lines-of, bare, byte-of, data-length, address, kind, data-bytes, upper-bits, malformed, checksum-wrong, data-place, misplaced, start, line-stop, after, image-after, text-stop, stored, import-stop, import-by, import}
 use Rattle.intel_hex.specs.Names.{LineNames, Names, Precisely}

@@ -11,7 +11,7 @@ use lib.Dec.{lit<, eqb, ltb}
 use lib.ListN.{length, take, drop, getD, length-append, length-take, length-drop, List·getD-append, List·getD-eq-default}
 use lib.Seq.{take-add, take-all, take-at, drop-at, getD-at, getD-drop, getD-take, length-take-le}
 use borrow.Author.Tests.{eqb-true, eqb-false, eq-eqb, ltb-true, ltb-false, le-ltb, lt-ltb}
-use Rattle.octets.specs.Limits.{image-limit, line-length}
+use Rattle.octets.specs.Limits.{image-limit, data-per-line}
 use Rattle.octets.specs.Octets.{part, put, bytes}
 use Rattle.octets.specs.Table.{table}
 use Rattle.octets.proofs.Laws.{put-front}
@@ -21,7 +21,7 @@ use Rattle.stops.specs.Stops.{first-of}
 use Rattle.stops.proofs.Laws.{passes}
 use Rattle.hex_digits.specs.Digits.{digit-value, all-digits, pair, encoded}
 use Rattle.hex_digits.proofs.Laws.{Bytes, length-encoded, encoded-digits, pair-encoded}
-use Rattle.intel_hex.specs.Lines.{mark, line-feed, data-line, end-line, upper-line, segment, checksum}
+use Rattle.intel_hex.specs.Format.{mark, line-feed, data-line, end-line, upper-line, boundary, checksum}
 use Rattle.intel_hex.specs.Export.{line-bytes, hex-line, place, upper, upper-part, data-part, block, blocks, line-count, hex-text, image-wrong, export-stop, export-by, export}
 use Rattle.intel_hex.specs.Import.{lines-of, byte-of, bytes-of, data-length, address, kind, data-bytes, upper-bits, shape-wrong, checksum-wrong, data-place, misplaced, start, after, image-after, or-else, text-stop, stored, import}
 use Rattle.intel_hex.specs.Inner.{line-end, end-length, Begins, checks}
@@ -44,7 +44,7 @@ one-byte x h (suc i) = lit< tt
 -- the line's type, length and address are in range and go together
 record Line (k a : ℕ) (s : List ℕ) : Type 0 where
   small : k < 256
-  low : a < segment
+  low : a < boundary
   short : length s < 256
   bytes-of : Bytes s
   shape : shape-wrong k (length s) a ≡ false
@@ -190,7 +190,7 @@ record Step (size : ℕ) (r r′ : Reading) (image image′ text t : List ℕ) :
   stores : stored r image (lines-of text) ≡ stored r′ image′ (lines-of t)
 
 module _ (size : ℕ) (r r′ : Reading) (image image′ : List ℕ) (k a : ℕ) (s t : List ℕ) (w : Whole k a s t (hex-line k a s ++ t)) where
-  stepped : r .ended ≡ false → (k ≡ data-line → misplaced size (r .upper * segment + a) a (length s) (r .next) ≡ false)
+  stepped : r .ended ≡ false → (k ≡ data-line → misplaced size (r .upper * boundary + a) a (length s) (r .next) ≡ false)
       → r′ ≡ after r (hex-line k a s ++ t) → image′ ≡ image-after r image (hex-line k a s ++ t) → Step size r r′ image image′ (hex-line k a s ++ t) t
   unfolding checks first-of
   stepped ended placed er ei =
@@ -200,14 +200,14 @@ module _ (size : ℕ) (r r′ : Reading) (image image′ : List ℕ) (k a : ℕ)
         judged =
             stop-on S u size r
             ∙ (λ i. or-else (checks size r (w .kind-is i) (w .address-is i) (w .length-is i) (w .checksum-is i)) (text-stop size (sym er i) (lines-of (w .behind i))))
-            ∙ ap (λ (x : Bool). or-else (cond x (some 15) (cond (eqb k data-line && misplaced size (r .upper * segment + a) a (length s) (r .next)) (some 17) none)) (text-stop size r′ (lines-of t))) ended
+            ∙ ap (λ (x : Bool). or-else (cond x (some 15) (cond (eqb k data-line && misplaced size (r .upper * boundary + a) a (length s) (r .next)) (some 17) none)) (text-stop size r′ (lines-of t))) ended
             ∙ ap (λ (x : Bool). or-else (cond x (some 17) none) (text-stop size r′ (lines-of t))) (go (eqb k data-line) refl);
         stores = stored-on S u r image ∙ (λ i. stored (sym er i) (sym ei i) (lines-of (w .behind i)));
       }
     where
-      go : (x : Bool) → eqb k data-line ≡ x → (eqb k data-line && misplaced size (r .upper * segment + a) a (length s) (r .next)) ≡ false
-      go true e = ap (λ (y : Bool). y && misplaced size (r .upper * segment + a) a (length s) (r .next)) e ∙ placed (eqb-true k data-line e)
-      go false e = ap (λ (y : Bool). y && misplaced size (r .upper * segment + a) a (length s) (r .next)) e
+      go : (x : Bool) → eqb k data-line ≡ x → (eqb k data-line && misplaced size (r .upper * boundary + a) a (length s) (r .next)) ≡ false
+      go true e = ap (λ (y : Bool). y && misplaced size (r .upper * boundary + a) a (length s) (r .next)) e ∙ placed (eqb-true k data-line e)
+      go false e = ap (λ (y : Bool). y && misplaced size (r .upper * boundary + a) a (length s) (r .next)) e
 
 step-on : {size : ℕ} {r r′ r″ : Reading} {image image′ image″ text t u : List ℕ} → Step size r r′ image image′ text t → Step size r′ r″ image′ image″ t u
     → Step size r r″ image image″ text u
@@ -220,7 +220,7 @@ two-bytes x zero = mod-lt (x / 2 ^ 8) (lit< tt)
 two-bytes x (suc zero) = mod-lt (x / 2 ^ 0) (lit< tt)
 two-bytes x (suc (suc i)) = lit< tt
 
-upper-step : (size u : ℕ) (r : Reading) (image t : List ℕ) → r .ended ≡ false → u < segment
+upper-step : (size u : ℕ) (r : Reading) (image t : List ℕ) → r .ended ≡ false → u < boundary
     → Step size r (record { upper = u; next = r .next; ended = r .ended }) image image (hex-line upper-line 0 (bytes 2 u) ++ t) t
 unfolding bytes
 upper-step size u r image t ended h =
@@ -234,16 +234,16 @@ upper-step size u r image t ended h =
     (after-upper S r u (w .kind-is) bits) (image-other S image r (λ e. let z : upper-line ≡ data-line = sym (w .kind-is) ∙ e in omega arith))
 
 -- a data line puts its data
-data-step : (size a : ℕ) (r : Reading) (image s t : List ℕ) → r .ended ≡ false → a < segment → 0 < length s → length s < 256 → Bytes s
-    → misplaced size (r .upper * segment + a) a (length s) (r .next) ≡ false
-    → Step size r (record { upper = r .upper; next = r .upper * segment + a + length s; ended = r .ended }) image (put image (r .upper * segment + a) s) (hex-line data-line a s ++ t) t
+data-step : (size a : ℕ) (r : Reading) (image s t : List ℕ) → r .ended ≡ false → a < boundary → 0 < length s → length s < 256 → Bytes s
+    → misplaced size (r .upper * boundary + a) a (length s) (r .next) ≡ false
+    → Step size r (record { upper = r .upper; next = r .upper * boundary + a + length s; ended = r .ended }) image (put image (r .upper * boundary + a) s) (hex-line data-line a s ++ t) t
 data-step size a r image s t ended low some-data short small placed =
     let w : Whole data-line a s t (hex-line data-line a s ++ t) =
     whole data-line a s t (record { small = lit< tt; low = low; short = short; bytes-of = small; shape = shaped }) in
     let S : List ℕ = hex-line data-line a s ++ t in
-    let p : r .upper * segment + a ≡ data-place r S = ap (λ (x : ℕ). r .upper * segment + x) (sym (w .address-is)) in
-    stepped size r (record { upper = r .upper; next = r .upper * segment + a + length s; ended = r .ended }) image (put image (r .upper * segment + a) s) data-line a s t w ended (λ e. placed)
-    (after-data S r (r .upper * segment + a) (length s) (w .kind-is) p (sym (w .length-is)))
+    let p : r .upper * boundary + a ≡ data-place r S = ap (λ (x : ℕ). r .upper * boundary + x) (sym (w .address-is)) in
+    stepped size r (record { upper = r .upper; next = r .upper * boundary + a + length s; ended = r .ended }) image (put image (r .upper * boundary + a) s) data-line a s t w ended (λ e. placed)
+    (after-data S r (r .upper * boundary + a) (length s) (w .kind-is) p (sym (w .length-is)))
     (ap₂ (put image) p (sym (w .data-is)) ∙ image-data S image r (w .kind-is))
   where
     shaped : shape-wrong data-line (length s) a ≡ false
@@ -272,7 +272,7 @@ module _ (image : List ℕ) (small : Bytes image) where
   reading k = record { upper = upper-before k; next = min (place k) (length image); ended = false }
 
   -- the upper bits stay where the lower ones are not 0
-  upper-stays : (k : ℕ) → (place k % segment ≡ 0 → ⊥) → upper-before k ≡ upper k
+  upper-stays : (k : ℕ) → (place k % boundary ≡ 0 → ⊥) → upper-before k ≡ upper k
   unfolding upper-before
   upper-stays zero h = absurd (h refl)
   upper-stays (suc k) h = omega arith
@@ -295,17 +295,17 @@ module _ (image : List ℕ) (small : Bytes image) where
     upper-part-step : (k : ℕ) (t : List ℕ) → place k < length image
         → Step (length image) (reading k) (record { upper = upper k; next = min (place k) (length image); ended = false }) (filled k) (filled k) (upper-part k ++ t) t
     unfolding reading
-    upper-part-step k t h = go (eqb (place k % segment) 0) refl
+    upper-part-step k t h = go (eqb (place k % boundary) 0) refl
       where
         r : Reading
         r = record { upper = upper k; next = min (place k) (length image); ended = false }
 
-        go : (x : Bool) → eqb (place k % segment) 0 ≡ x → Step (length image) (reading k) r (filled k) (filled k) (upper-part k ++ t) t
+        go : (x : Bool) → eqb (place k % boundary) 0 ≡ x → Step (length image) (reading k) r (filled k) (filled k) (upper-part k ++ t) t
         go true e =
-            subst (λ (u : List ℕ). Step (length image) (reading k) r (filled k) (filled k) (u ++ t) t) (sym (upper-some k (eqb-true (place k % segment) 0 e)))
+            subst (λ (u : List ℕ). Step (length image) (reading k) r (filled k) (filled k) (u ++ t) t) (sym (upper-some k (eqb-true (place k % boundary) 0 e)))
             (upper-step (length image) (upper k) (reading k) (filled k) t refl (omega arith))
         go false e =
-            let n = eqb-false (place k % segment) 0 e in
+            let n = eqb-false (place k % boundary) 0 e in
             let same : reading k ≡ r = ap (λ (u : ℕ). record { upper = u; next = min (place k) (length image); ended = false }) (upper-stays k n) in
             subst (λ (u : List ℕ). Step (length image) (reading k) r (filled k) (filled k) (u ++ t) t) (sym (upper-none k n))
             (record { judged = ap (λ (x : Reading). text-stop (length image) x (lines-of t)) same; stores = ap (λ (x : Reading). stored x (filled k) (lines-of t)) same })
@@ -314,22 +314,22 @@ module _ (image : List ℕ) (small : Bytes image) where
         → Step (length image) (record { upper = upper k; next = min (place k) (length image); ended = false }) (reading (suc k)) (filled k) (filled (suc k)) (data-part image k ++ t) t
     unfolding data-part part reading upper-before filled
     data-part-step k t h =
-        let s : List ℕ = part image (place k) line-length in
+        let s : List ℕ = part image (place k) data-per-line in
         let r : Reading = record { upper = upper k; next = min (place k) (length image); ended = false } in
-        let a : ℕ = place k % segment in
-        let n : length s ≡ min line-length (length image - place k) = simp (length-take, length-drop) in
-        let p : upper k * segment + a ≡ place k = omega arith in
-        let room : a + 16 ≤ segment = omega arith in
-        let next : upper k * segment + a + length s ≡ min (place (suc k)) (length image) = omega arith in
-        let here : put (filled k) (upper k * segment + a) s ≡ filled (suc k) =
+        let a : ℕ = place k % boundary in
+        let n : length s ≡ min data-per-line (length image - place k) = simp (length-take, length-drop) in
+        let p : upper k * boundary + a ≡ place k = omega arith in
+        let room : a + 16 ≤ boundary = omega arith in
+        let next : upper k * boundary + a + length s ≡ min (place (suc k)) (length image) = omega arith in
+        let here : put (filled k) (upper k * boundary + a) s ≡ filled (suc k) =
         ap (λ (x : ℕ). put (filled k) x s) p
         ∙ put-on other (take (place k) image) s 0 (place k) (omega (arith, length-take-le (place k) image (omega arith))) (omega arith)
-        ∙ ap (put other 0) (sym (take-add (place k) line-length image) ∙ ap (λ (x : ℕ). take x image) (let e : place k + line-length ≡ place (suc k) = omega arith in e)) in
-        let placed : misplaced (length image) (upper k * segment + a) a (length s) (r .next) ≡ false =
-        rw (le-ltb (length image) (upper k * segment + a + length s) (omega arith), le-ltb segment (a + length s) (omega arith), le-ltb (upper k * segment + a) (min (place k) (length image)) (omega arith)) refl in
+        ∙ ap (put other 0) (sym (take-add (place k) data-per-line image) ∙ ap (λ (x : ℕ). take x image) (let e : place k + data-per-line ≡ place (suc k) = omega arith in e)) in
+        let placed : misplaced (length image) (upper k * boundary + a) a (length s) (r .next) ≡ false =
+        rw (le-ltb (length image) (upper k * boundary + a + length s) (omega arith), le-ltb boundary (a + length s) (omega arith), le-ltb (upper k * boundary + a) (min (place k) (length image)) (omega arith)) refl in
         subst (λ (i : List ℕ). Step (length image) r (reading (suc k)) (filled k) i (data-part image k ++ t) t) here
-        (subst (λ (m : ℕ). Step (length image) r (record { upper = upper k; next = m; ended = false }) (filled k) (put (filled k) (upper k * segment + a) s) (data-part image k ++ t) t) next
-        (data-step (length image) a r (filled k) s t refl (omega arith) (omega arith) (omega arith) (part-small (place k) line-length) placed))
+        (subst (λ (m : ℕ). Step (length image) r (record { upper = upper k; next = m; ended = false }) (filled k) (put (filled k) (upper k * boundary + a) s) (data-part image k ++ t) t) next
+        (data-step (length image) a r (filled k) s t refl (omega arith) (omega arith) (omega arith) (part-small (place k) data-per-line) placed))
 
     block-step : (k : ℕ) (t : List ℕ) → place k < length image → Step (length image) (reading k) (reading (suc k)) (filled k) (filled (suc k)) (block image k ++ t) t
     unfolding block

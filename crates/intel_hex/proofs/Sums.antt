@@ -3,7 +3,7 @@ use mathlib.Core.Path.{_≡_, sym, ap, _∙_}
 use mathlib.Core.List.{List, [], _∷_, _++_}
 use Prim.Native.Nat.{ℕ, _+_}
 use native.Mathlib.Nat.{zero-add, add-assoc}
-use Rattle.intel_hex.specs.Lines.{sum}
+use Rattle.intel_hex.specs.Format.{sum}
 
 pub sum-append : (s t : List ℕ) → sum (s ++ t) ≡ sum s + sum t
 unfolding sum

@@ -6,29 +6,30 @@ use mathlib.Core.Option.{Option, none, some}
 use mathlib.Core.List.{List, [], _∷_, _++_}
 use lib.Dec.{eqb, ltb}
 use lib.ListN.{length}
-use Rattle.octets.specs.Limits.{image-limit, line-length}
+use Rattle.octets.specs.Limits.{image-limit, data-per-line}
 use Rattle.octets.specs.Octets.{part, put, bytes}
 use Rattle.stops.specs.Stops.{first-of}
 use Rattle.stops.specs.View.{check-number}
 use Rattle.hex_digits.specs.Digits.{encoded}
-use Rattle.intel_hex.specs.Lines.{mark, line-feed, data-line, end-line, upper-line, segment, checksum}
+use Rattle.intel_hex.specs.Format.{mark, line-feed, data-line, end-line, upper-line, boundary, checksum}
 use Rattle.intel_hex.specs.declared.export.Exported.{Exported}
 
--- the bytes that a line begins with, and the line itself
+-- a line's bytes before its checksum: length, address, type and data
 abbrev pub line-bytes : (kind address : ℕ) → List ℕ → List ℕ
 line-bytes kind address s = length s ∷ (bytes 2 address ++ (kind ∷ s))
 
+-- the line of these
 unfoldable pub hex-line : (kind address : ℕ) → List ℕ → List ℕ
 hex-line kind address s =
     let b = line-bytes kind address s in
     mark ∷ (encoded (b ++ (checksum b ∷ [])) ++ (line-feed ∷ []))
 
--- the address of data line k, and its upper bits
+-- the address of data line k, counted from 0, and its upper bits
 abbrev pub place : ℕ → ℕ
-place k = line-length * k
+place k = data-per-line * k
 
 abbrev pub upper : ℕ → ℕ
-upper k = place k / segment
+upper k = place k / boundary
 
 -- whether a type 04 line stands before data line k
 abbrev pub upper-changes : ℕ → Bool
@@ -38,7 +39,7 @@ unfoldable pub upper-part : ℕ → List ℕ
 upper-part k = cond (upper-changes k) (hex-line upper-line 0 (bytes 2 (upper k))) []
 
 unfoldable pub data-part : List ℕ → ℕ → List ℕ
-data-part image k = hex-line data-line (place k % segment) (part image (place k) line-length)
+data-part image k = hex-line data-line (place k % boundary) (part image (place k) data-per-line)
 
 -- data line k, with the type 04 line before it
 unfoldable pub block : List ℕ → ℕ → List ℕ
@@ -51,7 +52,7 @@ blocks image (suc k) = blocks image k ++ block image k
 
 -- how many data lines n bytes make
 abbrev pub line-count : ℕ → ℕ
-line-count n = (n + (line-length - 1)) / line-length
+line-count n = (n + (data-per-line - 1)) / data-per-line
 
 unfoldable pub hex-text : List ℕ → List ℕ
 hex-text image = blocks image (line-count (length image)) ++ hex-line end-line 0 []
@@ -61,6 +62,7 @@ hex-text image = blocks image (line-count (length image)) ++ hex-line end-line 0
 abbrev pub image-wrong : ℕ → Bool
 image-wrong n = eqb n 0 || ltb image-limit n
 
+-- from the image and what the buffer for the text holds before
 unfoldable pub export-stop : (image text : List ℕ) → Option ℕ
 export-stop image text = first-of (
     (2, image-wrong (length image)) ∷

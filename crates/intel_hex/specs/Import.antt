@@ -12,7 +12,7 @@ use Rattle.stops.specs.Stops.{first-of}
 use Rattle.stops.specs.View.{check-number}
 use Rattle.stops.specs.declared.Check.{Check}
 use Rattle.hex_digits.specs.Digits.{all-digits, pair}
-use Rattle.intel_hex.specs.Lines.{mark, line-feed, carriage-return, data-line, end-line, upper-line, segment, line-width, checksum}
+use Rattle.intel_hex.specs.Format.{mark, line-feed, carriage-return, data-line, end-line, upper-line, boundary, head-size, line-width, checksum}
 use Rattle.intel_hex.specs.Export.{image-wrong}
 use Rattle.intel_hex.specs.declared.import.Reading.{Reading}
 
@@ -31,7 +31,7 @@ unfoldable pub lines-of : List ℕ → Lines
 lines-of [] = rest []
 lines-of (b ∷ s) = cond (eqb b line-feed) (line [] (lines-of s)) (longer b (lines-of s))
 
--- a line without a carriage return at its end
+-- a line without the one carriage return that may end it; any other one is malformed
 unfoldable pub bare : List ℕ → List ℕ
 bare l = cond (eqb (getD l (length l - 1) 0) carriage-return) (take (length l - 1) l) l
 
@@ -54,13 +54,14 @@ abbrev pub kind : List ℕ → ℕ
 kind l = byte-of l 3
 
 abbrev pub data-bytes : List ℕ → List ℕ
-data-bytes l = bytes-of l 4 (data-length l)
+data-bytes l = bytes-of l head-size (data-length l)
 
--- the number of the first two of them
+-- the upper address bits that a type 04 line sets: the number of its two data bytes
 abbrev pub upper-bits : List ℕ → ℕ
 upper-bits l = getD (data-bytes l) 0 0 * 256 + getD (data-bytes l) 1 0
 
--- a data line has data; the end line has none and a type 04 line two bytes, both with address 0
+-- a data line has data, at most 255 bytes since the length is a byte; the end line has none and a type 04 line two bytes, both with address 0;
+-- another type is wrong
 abbrev pub shape-wrong : (kind n address : ℕ) → Bool
 shape-wrong k n a =
     not ((eqb k data-line && ltb 0 n) || (eqb k end-line && eqb n 0 && eqb a 0) || (eqb k upper-line && eqb n 2 && eqb a 0))
@@ -71,21 +72,22 @@ malformed l =
     || shape-wrong (kind l) (data-length l) (address l)
 
 unfoldable pub checksum-wrong : List ℕ → Bool
-checksum-wrong l = let n = 4 + data-length l in not (eqb (byte-of l n) (checksum (bytes-of l 0 n)))
+checksum-wrong l = let n = head-size + data-length l in not (eqb (byte-of l n) (checksum (bytes-of l 0 n)))
 
 -- ---- one line after the other
 
--- the upper address bits, the first address above the data so far, and whether the end line has been read
+-- a Reading is what the lines so far have set: the upper address bits, the first address above the data, and whether the end line has been
+-- read
 abbrev pub start : Reading
 start = record { upper = 0; next = 0; ended = false }
 
 -- where the data of a line go
 abbrev pub data-place : Reading → List ℕ → ℕ
-data-place r l = r .upper * segment + address l
+data-place r l = r .upper * boundary + address l
 
--- outside an image of so many bytes, past the end of the segment, or not above the data before
+-- outside an image of so many bytes, past a 64 KiB boundary, or not above the data before
 abbrev pub misplaced : (size place address n next : ℕ) → Bool
-misplaced size p a n next = ltb size (p + n) || ltb segment (a + n) || ltb p next
+misplaced size p a n next = ltb size (p + n) || ltb boundary (a + n) || ltb p next
 
 unfoldable pub line-stop : ℕ → Reading → List ℕ → Option ℕ
 line-stop size r l = first-of (
@@ -93,6 +95,7 @@ line-stop size r l = first-of (
     (16, checksum-wrong l) ∷
     (17, eqb (kind l) data-line && misplaced size (data-place r l) (address l) (data-length l) (r .next)) ∷ [])
 
+-- a type 04 line may repeat or lower the upper bits, and may point outside the image: only data are judged
 unfoldable pub after : Reading → List ℕ → Reading
 after r l =
     cond (eqb (kind l) data-line) (record { upper = r .upper; next = data-place r l + data-length l; ended = r .ended })
@@ -111,7 +114,7 @@ abbrev pub empty : List ℕ → Bool
 empty [] = true
 empty (b ∷ s) = false
 
--- the stop of a text for an image of so many bytes
+-- the stop of a text for an image of so many bytes; that the end line is missing is found last
 unfoldable pub text-stop : ℕ → Reading → Lines → Option ℕ
 text-stop size r (line l more) = or-else (line-stop size r (bare l)) (text-stop size (after r (bare l)) more)
 text-stop size r (rest s) = first-of ((15, not (r .ended) || not (empty s)) ∷ [])

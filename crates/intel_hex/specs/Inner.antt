@@ -10,7 +10,7 @@ use Rattle.octets.specs.Octets.{part, put}
 use Rattle.stops.specs.Stops.{first-of}
 use Rattle.stops.specs.View.{check-number}
 use Rattle.hex_digits.specs.Digits.{all-digits, decoded}
-use Rattle.intel_hex.specs.Lines.{mark, line-feed, carriage-return, data-line, segment, line-width, sum}
+use Rattle.intel_hex.specs.Format.{mark, line-feed, carriage-return, data-line, boundary, line-width, sum}
 use Rattle.intel_hex.specs.Export.{line-count}
 use Rattle.intel_hex.specs.Import.{data-length, address, kind, shape-wrong, checksum-wrong, misplaced, or-else, text-stop, lines-of}
 use Rattle.intel_hex.specs.declared.import.Reading.{Reading}
@@ -23,9 +23,9 @@ use Rattle.intel_hex.specs.declared.import.Judged.{Judged}
 
 -- ---- export
 
--- how long the text of an image of n bytes is
+-- how long the text of an image of n bytes is: with its line feed a line without data has 12 bytes, a type 04 line 16
 abbrev pub text-length : ℕ → ℕ
-text-length n = 16 * ((n + (segment - 1)) / segment) + (12 * line-count n + 2 * n) + 12
+text-length n = 16 * ((n + (boundary - 1)) / boundary) + (12 * line-count n + 2 * n) + 12
 
 -- some bytes were written from an offset on, and where they end
 pub record Wrote (text : List ℕ) (at : ℕ) (bytes text′ : List ℕ) (end : ℕ) : Type 0 where
@@ -58,7 +58,7 @@ pub record LineOf (s : List ℕ) (l : Line) : Type 0 where
   pub kind : l .kind ≡ kind s
   pub tail : l .tail ≡ end-length s (line-end s)
   pub short : l .length < 256
-  pub low : l .address < segment
+  pub low : l .address < boundary
   pub ends : l .tail < 3
 
 pub record AtLine (s : List ℕ) (l : Line) (wrong : Bool) : Type 0 where
@@ -75,7 +75,7 @@ unfoldable pub checks : ℕ → Reading → (kind address n : ℕ) → Bool → 
 checks size r k a n wrong = first-of (
     (15, r .ended) ∷
     (16, wrong) ∷
-    (17, eqb k data-line && misplaced size (r .upper * segment + a) a n (r .next)) ∷ [])
+    (17, eqb k data-line && misplaced size (r .upper * boundary + a) a n (r .next)) ∷ [])
 
 -- the sum of the bytes whose digits are s
 abbrev pub SumOf : List ℕ → Summed → Type 0
@@ -87,4 +87,4 @@ pub record JudgedAs (s : List ℕ) (r : Reading) (size : ℕ) (t : Judged) : Typ
   pub stop : text-stop size r (lines-of s) ≡ or-else (check-number (t .check)) (text-stop size (t .reading) (lines-of (drop (t .length) s)))
   pub passed : check-number (t .check) ≡ none → 0 < t .length
   pub within : check-number (t .check) ≡ none → t .length ≤ length s
-  pub upper : check-number (t .check) ≡ none → t .reading .upper < segment
+  pub upper : check-number (t .check) ≡ none → t .reading .upper < boundary

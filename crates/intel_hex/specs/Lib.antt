@@ -1,5 +1,5 @@
 -- Intel HEX.
-pub mod Lines
+pub mod Format
 pub mod Export
 pub mod Import
 pub mod Names

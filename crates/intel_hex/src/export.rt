@@ -1,4 +1,5 @@
 // An image as a text of Intel HEX.
+use crate::line::BOUNDARY;
 use crate::line::DATA_AT;
 use crate::line::DATA_LINE;
 use crate::line::END_LINE;
@@ -6,11 +7,10 @@ use crate::line::LEAST_FED;
 use crate::line::LEAST_LINE;
 use crate::line::LINE_FEED;
 use crate::line::MARK;
-use crate::line::SEGMENT;
 use crate::line::UPPER_LINE;
 use crate::line::image_wrong;
 use hex_digits::encode;
-use octets::limits::LINE_LENGTH;
+use octets::limits::DATA_PER_LINE;
 use stops::Check;
 use stops::Stop;
 ghost use mathlib.Core.Path.{_≡_};
@@ -18,9 +18,9 @@ ghost use mathlib.Core.Bool.{false};
 ghost use mathlib.Core.List.{[], _∷_, _++_};
 ghost use Prim.Native.Nat.{_+_, _*_, _/_, _%_, _-_, _^_, _≤_, _<_, min};
 ghost use lib.ListN.{length};
-ghost use Rattle.octets.specs.Limits.{image-limit, line-length};
+ghost use Rattle.octets.specs.Limits.{image-limit, data-per-line};
 ghost use Rattle.octets.specs.Octets.{bytes};
-ghost use Rattle.intel_hex.specs.Lines.{segment, sum};
+ghost use Rattle.intel_hex.specs.Format.{boundary, sum};
 ghost use Rattle.intel_hex.specs.Export.{hex-line, upper-part, data-part, block, place, line-count, hex-text, image-wrong, export, exported-as};
 ghost use Rattle.intel_hex.specs.Inner.{text-length, Wrote};
 
@@ -51,7 +51,7 @@ fn checksum(total: usize) -> u8
 
 // The two bytes of a number, the higher first.
 fn two_bytes(n: usize) -> [u8; 2]
-    requires { ⌜ n < segment ⌝ }
+    requires { ⌜ n < boundary ⌝ }
     ensures { λ r. ⌜ r ≡ bytes 2 n ⌝ }
 {
     [(n / 256) as u8, (n % 256) as u8]
@@ -59,7 +59,7 @@ fn two_bytes(n: usize) -> [u8; 2]
 
 // The bytes that a line begins with: the number of its data bytes, its address and its type.
 fn line_head(n: usize, kind: u8, address: usize) -> [u8; 4]
-    requires { ⌜ (n < 256) × (address < segment) ⌝ }
+    requires { ⌜ (n < 256) × (address < boundary) ⌝ }
     ensures { λ r. ⌜ r ≡ n ∷ (bytes 2 address ++ (kind ∷ [])) ⌝ }
 {
     let low = two_bytes(address);
@@ -68,7 +68,7 @@ fn line_head(n: usize, kind: u8, address: usize) -> [u8; 4]
 
 // Writes a line to the front of out, and answers its length.
 fn put_line(out: &mut [u8], kind: u8, address: usize, s: &[u8]) -> usize
-    requires { ⌜ (length (now s) < 256) × (address < segment) × (12 + 2 * length (now s) ≤ length (now out)) ⌝ }
+    requires { ⌜ (length (now s) < 256) × (address < boundary) × (12 + 2 * length (now s) ≤ length (now out)) ⌝ }
     ensures { λ r. ⌜ Wrote (now (out .entry)) 0 (hex-line kind address (now (s .entry))) (now (out .exit)) r ⌝ }
 {
     let n = s.len();
@@ -84,7 +84,7 @@ fn put_line(out: &mut [u8], kind: u8, address: usize, s: &[u8]) -> usize
 
 // Writes a line from offset at on, and answers where it ends.
 fn put_line_at(text: &mut [u8], at: usize, kind: u8, address: usize, s: &[u8]) -> usize
-    requires { ⌜ (length (now s) < 256) × (address < segment) × (at + length (hex-line kind address (now s)) ≤ length (now text)) ⌝ }
+    requires { ⌜ (length (now s) < 256) × (address < boundary) × (at + length (hex-line kind address (now s)) ≤ length (now text)) ⌝ }
     ensures { λ r. ⌜ Wrote (now (text .entry)) at (hex-line kind address (now (s .entry))) (now (text .exit)) r ⌝ }
 {
     at + put_line(&mut text[at..], kind, address, s)
@@ -95,23 +95,23 @@ fn put_upper(text: &mut [u8], at: usize, k: usize) -> usize
     requires { ⌜ (place k < image-limit) × (at + length (upper-part k) ≤ length (now text)) ⌝ }
     ensures { λ r. ⌜ Wrote (now (text .entry)) at (upper-part k) (now (text .exit)) r ⌝ }
 {
-    let from = LINE_LENGTH * k;
-    if from % SEGMENT != 0 {
+    let from = DATA_PER_LINE * k;
+    if from % BOUNDARY != 0 {
         return at;
     }
-    let bits = two_bytes(from / SEGMENT);
+    let bits = two_bytes(from / BOUNDARY);
     put_line_at(text, at, UPPER_LINE, 0, &bits)
 }
 
 // Where the data line from an offset on ends in an image of n bytes.
 fn data_end(from: usize, n: usize) -> usize
     requires { ⌜ from ≤ n ⌝ }
-    ensures { λ r. ⌜ r ≡ min (from + line-length) n ⌝ }
+    ensures { λ r. ⌜ r ≡ min (from + data-per-line) n ⌝ }
 {
-    if n - from < LINE_LENGTH {
+    if n - from < DATA_PER_LINE {
         n
     } else {
-        from + LINE_LENGTH
+        from + DATA_PER_LINE
     }
 }
 
@@ -120,9 +120,9 @@ fn put_data(text: &mut [u8], at: usize, image: &[u8], k: usize) -> usize
     requires { ⌜ (length (now image) ≤ image-limit) × (place k < length (now image)) × (at + length (data-part (now image) k) ≤ length (now text)) ⌝ }
     ensures { λ r. ⌜ Wrote (now (text .entry)) at (data-part (now (image .entry)) k) (now (text .exit)) r ⌝ }
 {
-    let from = LINE_LENGTH * k;
+    let from = DATA_PER_LINE * k;
     let end = data_end(from, image.len());
-    put_line_at(text, at, DATA_LINE, from % SEGMENT, &image[from..end])
+    put_line_at(text, at, DATA_LINE, from % BOUNDARY, &image[from..end])
 }
 
 // Writes data line k with the type 04 line before it from offset at on, and answers where they end.
@@ -139,7 +139,7 @@ fn line_count(n: usize) -> usize
     requires { ⌜ n ≤ image-limit ⌝ }
     ensures { λ r. ⌜ r ≡ line-count n ⌝ }
 {
-    (n + (LINE_LENGTH - 1)) / LINE_LENGTH
+    (n + (DATA_PER_LINE - 1)) / DATA_PER_LINE
 }
 
 // How long the text of an image of n bytes is. A type 04 line has 16 bytes with its line feed.
@@ -147,7 +147,7 @@ fn text_length(n: usize) -> usize
     requires { ⌜ n ≤ image-limit ⌝ }
     ensures { λ r. ⌜ r ≡ text-length n ⌝ }
 {
-    let uppers = (n + (SEGMENT - 1)) / SEGMENT;
+    let uppers = (n + (BOUNDARY - 1)) / BOUNDARY;
     16 * uppers + (LEAST_FED * line_count(n) + 2 * n) + LEAST_FED
 }
 

@@ -1,10 +1,10 @@
 // A text of Intel HEX read into an image: one pass judges the text, and one stores its data.
+use crate::line::BOUNDARY;
 use crate::line::DATA_AT;
 use crate::line::DATA_LINE;
 use crate::line::Found;
 use crate::line::LEAST_LINE;
 use crate::line::Line;
-use crate::line::SEGMENT;
 use crate::line::UPPER_LINE;
 use crate::line::image_wrong;
 use crate::line::line_at;
@@ -18,7 +18,7 @@ ghost use mathlib.Core.Option.{none};
 ghost use Prim.Native.Nat.{_+_, _*_, _^_, _≤_, _<_};
 ghost use lib.ListN.{length, drop};
 ghost use Rattle.stops.specs.View.{check-number};
-ghost use Rattle.intel_hex.specs.Lines.{segment, data-line};
+ghost use Rattle.intel_hex.specs.Format.{boundary, data-line};
 ghost use Rattle.intel_hex.specs.Import.{lines-of, kind, data-length, data-place, misplaced, start, after, image-after, text-stop, stored, import, imported-as};
 ghost use Rattle.intel_hex.specs.Inner.{Begins, LineOf, checks, JudgedAs};
 
@@ -55,25 +55,25 @@ fn rest(text: &[u8], i: usize) -> &[u8]
     &text[i..]
 }
 
-// Whether the data of a line stand outside the image, past the end of the segment, or not above the data before.
+// Whether the data of a line stand outside the image, past a 64 KiB boundary, or not above the data before.
 fn misplaced(size: usize, place: usize, address: usize, n: usize, next: usize) -> bool
     requires { ⌜ (place < 2 ^ 32) × (address < 2 ^ 32) × (n < 256) ⌝ }
     ensures { λ r. ⌜ r ≡ misplaced size place address n next ⌝ }
 {
-    (size < place + n) | (SEGMENT < address + n) | (place < next)
+    (size < place + n) | (BOUNDARY < address + n) | (place < next)
 }
 
 // Where the data of a line go.
 fn data_place(reading: Reading, address: usize) -> usize
-    requires { ⌜ (reading .upper < segment) × (address < segment) ⌝ }
-    ensures { λ r. ⌜ (r ≡ reading .upper * segment + address) × (r < 2 ^ 32) ⌝ }
+    requires { ⌜ (reading .upper < boundary) × (address < boundary) ⌝ }
+    ensures { λ r. ⌜ (r ≡ reading .upper * boundary + address) × (r < 2 ^ 32) ⌝ }
 {
-    reading.upper * SEGMENT + address
+    reading.upper * BOUNDARY + address
 }
 
 // The checks of a line that is not malformed.
 fn line_check(line: Line, wrong: bool, reading: Reading, size: usize) -> Check
-    requires { ⌜ (reading .upper < segment) × (line .address < segment) × (line .length < 256) ⌝ }
+    requires { ⌜ (reading .upper < boundary) × (line .address < boundary) × (line .length < 256) ⌝ }
     ensures { λ r. ⌜ check-number r ≡ checks size reading (line .kind) (line .address) (line .length) wrong ⌝ }
 {
     let address = line.address;
@@ -85,14 +85,14 @@ fn line_check(line: Line, wrong: bool, reading: Reading, size: usize) -> Check
         .stop_if(wrong, Stop::BadChecksum)
         .stop_if(
             data & misplaced(size, place, address, n, reading.next),
-            Stop::BadAddress,
+            Stop::DataMisplaced,
         )
 }
 
 // The reading behind the line that s begins with.
 fn after(s: &[u8], line: Line, reading: Reading) -> Reading
-    requires { ⌜ Begins (now s) × LineOf (now s) line × (reading .upper < segment) ⌝ }
-    ensures { λ r. ⌜ (r ≡ after reading (now (s .entry))) × (r .upper < segment) ⌝ }
+    requires { ⌜ Begins (now s) × LineOf (now s) line × (reading .upper < boundary) ⌝ }
+    ensures { λ r. ⌜ (r ≡ after reading (now (s .entry))) × (r .upper < boundary) ⌝ }
 {
     if line.kind == DATA_LINE {
         let place = data_place(reading, line.address);
@@ -126,7 +126,7 @@ fn line_length(line: Line) -> usize
 
 // One line more, which s begins with, for an image of so many bytes.
 fn judge_line(s: &[u8], reading: Reading, size: usize) -> Judged
-    requires { ⌜ (0 < length (now s)) × (reading .upper < segment) ⌝ }
+    requires { ⌜ (0 < length (now s)) × (reading .upper < boundary) ⌝ }
     ensures { λ r. ⌜ JudgedAs (now (s .entry)) reading size r ⌝ }
 {
     match line_at(s) {
@@ -164,7 +164,7 @@ fn text_check(text: &[u8], size: usize) -> Check
 
 // Stores the data of the line that s begins with, if it is a data line.
 fn store_line(s: &[u8], line: Line, reading: Reading, image: &mut [u8])
-    requires { ⌜ Begins (now s) × LineOf (now s) line × (reading .upper < segment) × (kind (now s) ≡ data-line → data-place reading (now s) + data-length (now s) ≤ length (now image)) ⌝ }
+    requires { ⌜ Begins (now s) × LineOf (now s) line × (reading .upper < boundary) × (kind (now s) ≡ data-line → data-place reading (now s) + data-length (now s) ≤ length (now image)) ⌝ }
     ensures { λ _. ⌜ now (image .exit) ≡ image-after reading (now (image .entry)) (now (s .entry)) ⌝ }
 {
     if line.kind == DATA_LINE {

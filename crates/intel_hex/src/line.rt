@@ -7,7 +7,7 @@ ghost use mathlib.Core.Path.{_≡_};
 ghost use Prim.Native.Nat.{_+_, _*_, _/_, _≤_, _<_};
 ghost use lib.ListN.{length};
 ghost use Rattle.hex_digits.specs.Digits.{pair};
-ghost use Rattle.intel_hex.specs.Lines.{segment};
+ghost use Rattle.intel_hex.specs.Format.{boundary};
 ghost use Rattle.intel_hex.specs.Export.{image-wrong};
 ghost use Rattle.intel_hex.specs.Import.{shape-wrong};
 ghost use Rattle.intel_hex.specs.Inner.{end-length, LineOf, FoundIn, SumOf};
@@ -25,8 +25,8 @@ pub const END_LINE: u8 = 1;
 
 pub const UPPER_LINE: u8 = 4;
 
-// How many addresses the lower 16 bits tell apart.
-pub const SEGMENT: usize = 65_536;
+// How many addresses have the same upper 16 bits: 64 KiB.
+pub const BOUNDARY: usize = 65_536;
 
 // Where the digits of the data begin, the length of a line without data, and the same with its line feed.
 pub const DATA_AT: usize = 9;
@@ -84,7 +84,7 @@ fn end_length(s: &[u8], i: usize) -> usize
 // The number of the four digits from offset i on.
 pub fn number(s: &[u8], i: usize) -> usize
     requires { ⌜ i + 4 ≤ length (now s) ⌝ }
-    ensures { λ r. ⌜ (r ≡ pair (now (s .entry)) i * 256 + pair (now (s .entry)) (i + 2)) × (r < segment) ⌝ }
+    ensures { λ r. ⌜ (r ≡ pair (now (s .entry)) i * 256 + pair (now (s .entry)) (i + 2)) × (r < boundary) ⌝ }
 {
     pair(s, i) as usize * 256 + pair(s, i + 2) as usize
 }

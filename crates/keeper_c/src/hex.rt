@@ -8,7 +8,7 @@ ghost use mathlib.Core.Path.{_≡_};
 ghost use Rattle.intel_hex.specs.Import.{import};
 ghost use Rattle.keeper_c.specs.Calls.{answer, export-call, exporting-left};
 
-// Writes an image as Intel HEX to the front of `text`, and the length of what it wrote.
+// Writes an image as Intel HEX to the front of `text`, and its length to `written`.
 #[no_mangle]
 pub extern "C" fn keeper_hex_export(image: &[u8], text: &mut [u8], written: &mut usize) -> u32
     ensures { λ r. ⌜ exporting-left r (now (text .exit)) (now (written .exit)) ≡ export-call (now (image .entry)) (now (text .entry)) (now (written .entry)) ⌝ }
@@ -24,7 +24,7 @@ pub extern "C" fn keeper_hex_export(image: &[u8], text: &mut [u8], written: &mut
     }
 }
 
-// Stores the data of a text of Intel HEX in an image.
+// Stores the data of a text of Intel HEX in an image; what it answers and leaves is said in intel_hex.
 #[no_mangle]
 pub extern "C" fn keeper_hex_import(text: &[u8], image: &mut [u8]) -> u32
     ensures { λ r. ⌜ (r ≡ answer (import (now (text .entry)) (now (image .entry)) .stop)) × (now (image .exit) ≡ import (now (text .entry)) (now (image .entry)) .image) ⌝ }

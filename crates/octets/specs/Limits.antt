@@ -1,6 +1,7 @@
 -- The limits and lengths of documents 01 and 02, each named here and, for the code, in src/limits.rt. Elsewhere in the libraries one of
 -- them stands as a numeral only in the types of arrays (a nonce of 12 bytes, a tag or a slot of 16), in Layout.antt of checkpoint, which
--- gives document 01's offsets as numbers of their own, and where aes and gcm have the standards' numbers.
+-- gives document 01's offsets as numbers of their own, where aes and gcm have the standards' numbers, and in Format.antt of intel_hex,
+-- which has that format's.
 -- Lengths are in bytes; a word is 4.
 use Prim.Native.Nat.{ℕ}
 
@@ -53,10 +54,10 @@ tag-length = 16
 abbrev pub text-limit : ℕ
 text-limit = 65536
 
--- ---- images as Intel HEX (document 02, A.1)
+-- ---- images as Intel HEX (document 02, A.1), of any memory
 abbrev pub image-limit : ℕ
 image-limit = 262144
 
 -- the data bytes of an exported line
-abbrev pub line-length : ℕ
-line-length = 16
+abbrev pub data-per-line : ℕ
+data-per-line = 16

@@ -35,4 +35,4 @@ pub const TEXT_LIMIT: usize = 65_536;
 // Images as Intel HEX, and the data bytes of an exported line.
 pub const IMAGE_LIMIT: usize = 262_144;
 
-pub const LINE_LENGTH: usize = 16;
+pub const DATA_PER_LINE: usize = 16;

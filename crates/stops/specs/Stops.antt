@@ -4,7 +4,7 @@ use mathlib.Core.Bool.{Bool, cond}
 use mathlib.Core.Option.{Option, none, some}
 use mathlib.Core.List.{List, [], _∷_}
 
--- a line for each of document 01's rows that names the operation, in its order
+-- the number of the first condition that holds. An operation's list has a line for each row of the papers that names it, in their order.
 unfoldable pub first-of : List (ℕ × Bool) → Option ℕ
 first-of [] = none
 first-of (c ∷ more) = cond (c .1) (some (c .0)) (first-of more)

@@ -21,7 +21,7 @@ pub enum Stop {
     BadJob,
     BadLine,
     BadChecksum,
-    BadAddress,
+    DataMisplaced,
 }
 
 // What an operation's checks say.
@@ -51,7 +51,7 @@ pub fn stop_number(stop: Stop) -> u32
         Stop::BadJob => 14,
         Stop::BadLine => 15,
         Stop::BadChecksum => 16,
-        Stop::BadAddress => 17,
+        Stop::DataMisplaced => 17,
     }
 }
 

@@ -326,7 +326,7 @@ pub const fn hex_len(image_len: usize) -> usize {
 ///
 /// # Errors
 ///
-/// [`Stop::FramSize`], [`Stop::BadLine`], [`Stop::BadChecksum`], [`Stop::BadAddress`].
+/// [`Stop::FramSize`], [`Stop::BadLine`], [`Stop::BadChecksum`], [`Stop::DataMisplaced`].
 pub fn hex_import(text: &[u8], image: &mut [u8]) -> Result<(), Stop> {
     done(calls::hex_import(text, image))
 }

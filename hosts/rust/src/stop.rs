@@ -41,7 +41,7 @@ pub enum Stop {
     /// 16: a line's checksum is wrong.
     BadChecksum,
     /// 17: data outside the image, past a 64 KiB boundary within a line, or not above the data before.
-    BadAddress,
+    DataMisplaced,
 }
 
 impl Stop {
@@ -63,7 +63,7 @@ impl Stop {
         Stop::BadJob,
         Stop::BadLine,
         Stop::BadChecksum,
-        Stop::BadAddress,
+        Stop::DataMisplaced,
     ];
 
     /// The stop's number, 1 to 17.
@@ -102,7 +102,7 @@ impl Stop {
                 "malformed line, another type than 00, 01 and 04, a line after the end line, or no end line"
             }
             Stop::BadChecksum => "line checksum wrong",
-            Stop::BadAddress => {
+            Stop::DataMisplaced => {
                 "data outside the image, past a 64 KiB boundary within a line, or not above the data before"
             }
         }

@@ -71,7 +71,7 @@ fn stops_by_name() {
     assert_eq!(hex_import(END, &mut []), Err(Stop::FramSize));
     assert_eq!(hex_import(b"", &mut image), Err(Stop::BadLine));
     assert_eq!(hex_import(b":0000000100\n", &mut image), Err(Stop::BadChecksum));
-    assert_eq!(hex_import(b":0100020055A8\n:00000001FF\n", &mut image), Err(Stop::BadAddress));
+    assert_eq!(hex_import(b":0100020055A8\n:00000001FF\n", &mut image), Err(Stop::DataMisplaced));
     assert!(untouched(&image));
     assert_eq!(hex_import(b":0100010055A9\n:00000001FF\n", &mut image), Ok(()));
     assert_eq!(image, [PATTERN, 0x55]);

@@ -131,7 +131,7 @@ fn wrong_checksums() {
 }
 
 #[rustfmt::skip]
-const BAD_ADDRESS: &[&str] = &[
+const DATA_MISPLACED: &[&str] = &[
     // Outside the image: just behind it, out of it by a byte, by the upper bits, and the highest address there is.
     ":0100200033AC\n", ":02001F00334468\n", ":020000040001F9\n:0100000011EE\n", ":02000004FFFFFC\n:01FFFF00669B\n",
     ":02000004FFFFFC\n:02FFFF00667723\n",
@@ -143,7 +143,7 @@ const BAD_ADDRESS: &[&str] = &[
 
 #[test]
 fn bad_addresses() {
-    for text in BAD_ADDRESS {
+    for text in DATA_MISPLACED {
         for rest in ["", END, ":", ":0000000100\n"] {
             assert_eq!(answer(&format!("{text}{rest}"), 32), 17, "{text:?}, {rest:?}");
         }

@@ -4,7 +4,7 @@ use mathlib.Core.Path.{_≡_, _∙_}
 use native.Mathlib.Omega.{arith}
 use lib.ListN.{length, length-set}
 use borrow.Author.Needs.{needs}
-use Rattle.intel_hex.specs.Lines.{mark}
+use Rattle.intel_hex.specs.Format.{mark}
 use Rattle.intel_hex.proofs.ExportLaws.{line-written}
 use Rattle.intel_hex.proofs.export.put_line.Statement.{statement}
 use Rattle.intel_hex.proofs.export.put_line.Tie as tie

@@ -5,7 +5,7 @@ use Prim.Native.Nat.{_-_, _≤_}
 use native.Mathlib.Omega.{arith}
 use lib.ListN.{length, length-append}
 use borrow.Author.Needs.{needs}
-use Rattle.intel_hex.specs.Lines.{end-line}
+use Rattle.intel_hex.specs.Format.{end-line}
 use Rattle.intel_hex.specs.Export.{hex-line, blocks, hex-text}
 use Rattle.intel_hex.specs.Inner.{Wrote}
 use Rattle.intel_hex.proofs.ExportLaws.{wrote-none, wrote-as, wrote-on, block-fits, blocks-more, text-whole, image-fits}

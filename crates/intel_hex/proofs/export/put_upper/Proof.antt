@@ -2,7 +2,7 @@
 use mathlib.Core.Path.{_≡_, sym, ap, _∙_}
 use native.Mathlib.Omega.{arith}
 use borrow.Author.Needs.{needs}
-use Rattle.intel_hex.specs.Lines.{upper-line}
+use Rattle.intel_hex.specs.Format.{upper-line}
 use Rattle.intel_hex.specs.Export.{hex-line, upper-part}
 use Rattle.intel_hex.proofs.ExportLaws.{wrote-none, wrote-as, upper-some, upper-none}
 use Rattle.intel_hex.proofs.export.put_upper.Statement.{statement}

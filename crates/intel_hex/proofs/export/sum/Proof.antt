@@ -4,7 +4,7 @@ use Prim.Native.Nat.{_-_, _*_, _≤_}
 use native.Mathlib.Omega.{arith}
 use lib.ListN.{length, take}
 use lib.Seq.{take-all}
-use Rattle.intel_hex.specs.Lines.{sum}
+use Rattle.intel_hex.specs.Format.{sum}
 use Rattle.intel_hex.proofs.ExportLaws.{sum-more}
 use Rattle.intel_hex.proofs.export.sum.Statement.{statement}
 use Rattle.intel_hex.proofs.export.sum.Tie as tie

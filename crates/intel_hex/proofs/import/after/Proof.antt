@@ -2,7 +2,7 @@
 use mathlib.Core.Path.{sym, ap, _∙_}
 use Prim.Native.Nat.{ℕ, _+_, _*_}
 use borrow.Author.Needs.{needs}
-use Rattle.intel_hex.specs.Lines.{segment}
+use Rattle.intel_hex.specs.Format.{boundary}
 use Rattle.intel_hex.proofs.ImportLaws.{after-data, after-upper, after-end, upper-line-is, upper-is}
 use Rattle.intel_hex.proofs.import.after.Statement.{statement}
 use Rattle.intel_hex.proofs.import.after.Tie as tie
@@ -13,7 +13,7 @@ returns c =
     let start = placed .before .before .before .before in
     let a = start .args in
     let line = start .pre .1 in
-    (after-data (a .s .now) (a .reading) _ _ (sym (line .kind) ∙ placed .before .if1 .taken) (placed .data-place .ensures .0 ∙ ap (λ (x : ℕ). a .reading .upper * segment + x) (line .address)) (line .length), search needs)
+    (after-data (a .s .now) (a .reading) _ _ (sym (line .kind) ∙ placed .before .if1 .taken) (placed .data-place .ensures .0 ∙ ap (λ (x : ℕ). a .reading .upper * boundary + x) (line .address)) (line .length), search needs)
 
 number-requires : tie.Need-number-requires
 number-requires c κs =

@@ -9,7 +9,7 @@ use lib.ListN.{length, drop}
 use borrow.Author.Needs.{needs}
 use Rattle.stops.specs.View.{check-number}
 use Rattle.stops.specs.declared.Check.{Check}
-use Rattle.intel_hex.specs.Lines.{segment}
+use Rattle.intel_hex.specs.Format.{boundary}
 use Rattle.intel_hex.specs.Import.{lines-of, after, or-else, text-stop}
 use Rattle.intel_hex.specs.Inner.{AtLine, FoundIn, checks, JudgedAs}
 use Rattle.intel_hex.specs.declared.import.Reading.{Reading}
@@ -22,7 +22,7 @@ never : {A : Type 0} (n : ℕ) → _≡_ {A = Option ℕ} (some n) none → A
 never n e = let z : _≡_ {A = ℕ} 0 1 = cc in absurd (omega arith)
 
 judged : (s : List ℕ) (r r′ : Reading) (size n : ℕ) (l : Line) (wrong : Bool) (check : Check) → AtLine s l wrong
-    → check-number check ≡ checks size r (l .kind) (l .address) (l .length) wrong → r′ ≡ after r s → r′ .upper < segment → n ≡ 11 + 2 * l .length + l .tail
+    → check-number check ≡ checks size r (l .kind) (l .address) (l .length) wrong → r′ ≡ after r s → r′ .upper < boundary → n ≡ 11 + 2 * l .length + l .tail
     → JudgedAs s r size (record { check = check; reading = r′; length = n })
 judged s r r′ size n l wrong check a e er h en =
     let o = a .line in

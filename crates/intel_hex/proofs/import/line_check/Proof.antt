@@ -6,7 +6,7 @@ use Prim.Native.Nat.{ℕ, _+_, _*_}
 use lib.Dec.{eqb}
 use borrow.Author.Needs.{needs}
 use Rattle.stops.proofs.Laws.{no-lines, one-more}
-use Rattle.intel_hex.specs.Lines.{data-line, segment}
+use Rattle.intel_hex.specs.Format.{data-line, boundary}
 use Rattle.intel_hex.specs.Import.{misplaced}
 use Rattle.intel_hex.specs.Inner.{checks}
 use Rattle.intel_hex.proofs.import.line_check.Statement.{statement}
@@ -23,7 +23,7 @@ returns c =
     let l = a .line in
     let one = one-more [] 15 (a .reading .ended) _ _ _ no-lines refl (first .stop-if .ensures) in
     let two = one-more ((15, a .reading .ended) ∷ []) 16 (a .wrong) _ _ _ one refl (second .stop-if2 .ensures) in
-    one-more ((15, a .reading .ended) ∷ (16, a .wrong) ∷ []) 17 (eqb (l .kind) data-line && misplaced (a .size) (a .reading .upper * segment + l .address) (l .address) (l .length) (a .reading .next)) _ _ _ two
+    one-more ((15, a .reading .ended) ∷ (16, a .wrong) ∷ []) 17 (eqb (l .kind) data-line && misplaced (a .size) (a .reading .upper * boundary + l .address) (l .address) (l .length) (a .reading .next)) _ _ _ two
     (ap (λ t. eqb (l .kind) data-line && t) (third .misplaced .ensures ∙ ap (λ (p : ℕ). misplaced (a .size) p (l .address) (l .length) (a .reading .next)) (placed .data-place .ensures .0))) (c .stop-if3 .ensures)
 
 pub line-check-spec : {M : Type 1} → statement M

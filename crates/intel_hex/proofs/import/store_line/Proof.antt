@@ -10,7 +10,7 @@ use Rattle.octets.specs.Octets.{put}
 use Rattle.octets.proofs.Lent.{lent}
 use Rattle.octets.proofs.Tables.{length-table}
 use Rattle.hex_digits.specs.Digits.{pair, decoded}
-use Rattle.intel_hex.specs.Lines.{data-line, segment}
+use Rattle.intel_hex.specs.Format.{data-line, boundary}
 use Rattle.intel_hex.specs.Import.{kind, data-length, data-place, image-after}
 use Rattle.intel_hex.specs.Inner.{Begins, LineOf}
 use Rattle.intel_hex.specs.declared.import.Reading.{Reading}
@@ -31,10 +31,10 @@ record Room (s image : List ℕ) (l : Line) (p : ℕ) : Type 0 where
   digits : 2 * l .length ≤ length (drop 9 s)
 
 room : (s image : List ℕ) (r : Reading) (l : Line) (p : ℕ) → Begins s → LineOf s l → (kind s ≡ data-line → data-place r s + data-length s ≤ length image)
-    → l .kind ≡ data-line → p ≡ r .upper * segment + l .address → Room s image l p
+    → l .kind ≡ data-line → p ≡ r .upper * boundary + l .address → Room s image l p
 room s image r l p g o h k e =
     let f : data-place r s + data-length s ≤ length image = h (sym (o .kind) ∙ k) in
-    let n : p + l .length ≡ data-place r s + data-length s = ap₂ (λ (x y : ℕ). x + y) (e ∙ ap (λ (x : ℕ). r .upper * segment + x) (o .address)) (o .length) in
+    let n : p + l .length ≡ data-place r s + data-length s = ap₂ (λ (x y : ℕ). x + y) (e ∙ ap (λ (x : ℕ). r .upper * boundary + x) (o .address)) (o .length) in
     record { fits = omega (arith, f, n); digits = rw length-drop (omega (arith, begun s g .inside, o .length)) }
 
 placed : (c : tie.After-data-place) → Room (c .before .before .before .before .before .args .s .now) (c .before .before .before .before .before .args .image .now) (c .before .before .before .before .before .args .line) (c .data-place .result)
@@ -50,13 +50,13 @@ decode-requires c κs =
     (subst (λ (d : List ℕ). 2 * c .before .before .before .before .before .before .before .args .line .length ≤ length d) (sym e) (k .digits), omega (arith, k .fits))
 
 -- the part of the image that was lent came back with the data at its front
-put-data : (s image zs d : List ℕ) (r : Reading) (l : Line) (p : ℕ) → LineOf s l → l .kind ≡ data-line → p ≡ r .upper * segment + l .address → Room s image l p
+put-data : (s image zs d : List ℕ) (r : Reading) (l : Line) (p : ℕ) → LineOf s l → l .kind ≡ data-line → p ≡ r .upper * boundary + l .address → Room s image l p
     → d ≡ drop 9 s → zs ≡ put (take (length image - p) (drop p image)) 0 (decoded d (l .length)) → putMid p (length image - p) image zs ≡ image-after r image s
 put-data s image zs d r l p o k e f ed ez =
     let D : List ℕ = decoded (drop 9 s) (l .length) in
     lent image D zs p (length image - p) (omega (arith, f .fits)) (omega (arith, f .fits, length-table (l .length) (λ j. pair (drop 9 s) (2 * j))))
     (ez ∙ ap (λ (x : List ℕ). put (take (length image - p) (drop p image)) 0 (decoded x (l .length))) ed)
-    ∙ ap₂ (put image) (e ∙ ap (λ (x : ℕ). r .upper * segment + x) (o .address)) (ap (decoded (drop 9 s)) (o .length) ∙ data-decoded s)
+    ∙ ap₂ (put image) (e ∙ ap (λ (x : ℕ). r .upper * boundary + x) (o .address)) (ap (decoded (drop 9 s)) (o .length) ∙ data-decoded s)
     ∙ image-data s image r (sym (o .kind) ∙ k)
 
 returns : tie.Need-returns

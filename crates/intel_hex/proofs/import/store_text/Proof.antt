@@ -7,7 +7,7 @@ use native.Mathlib.Omega.{arith}
 use lib.ListN.{length, drop, length-drop}
 use lib.Seq.{drop-drop}
 use borrow.Author.Needs.{needs}
-use Rattle.intel_hex.specs.Lines.{segment, data-line}
+use Rattle.intel_hex.specs.Format.{boundary, data-line}
 use Rattle.intel_hex.specs.Import.{lines-of, kind, data-length, data-place, start, after, image-after, text-stop, stored}
 use Rattle.intel_hex.specs.Inner.{Begins, LineOf}
 use Rattle.intel_hex.specs.declared.import.Reading.{Reading}
@@ -19,7 +19,7 @@ use Rattle.intel_hex.proofs.import.store_text.Tie as tie
 
 abbrev Inv-loop : tie.InvT-loop
 Inv-loop text image₀ reading₀ at₀ image reading at =
-    (at ≤ length text) × (reading .upper < segment) × (length image ≡ length image₀)
+    (at ≤ length text) × (reading .upper < boundary) × (length image ≡ length image₀)
     × (text-stop (length image₀) reading (lines-of (drop at text)) ≡ none)
     × (stored start image₀ (lines-of text) ≡ stored reading image (lines-of (drop at text)))
 

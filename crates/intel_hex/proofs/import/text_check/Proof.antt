@@ -11,7 +11,7 @@ use Rattle.stops.specs.View.{check-number, stop-number}
 use Rattle.stops.specs.declared.Check.{Check}
 use Rattle.stops.specs.declared.Check.the-variants.{Pass, Stopped}
 use Rattle.stops.specs.declared.Stop.{Stop}
-use Rattle.intel_hex.specs.Lines.{segment}
+use Rattle.intel_hex.specs.Format.{boundary}
 use Rattle.intel_hex.specs.Import.{lines-of, start, or-else, text-stop}
 use Rattle.intel_hex.specs.Inner.{JudgedAs}
 use Rattle.intel_hex.specs.declared.import.Reading.{Reading}
@@ -22,7 +22,7 @@ use Rattle.intel_hex.proofs.import.text_check.Tie as tie
 
 abbrev Inv-loop : tie.InvT-loop
 Inv-loop text size reading₀ at₀ reading at =
-    (at ≤ length text) × (reading .upper < segment) × (text-stop size start (lines-of text) ≡ text-stop size reading (lines-of (drop at text)))
+    (at ≤ length text) × (reading .upper < boundary) × (text-stop size start (lines-of text) ≡ text-stop size reading (lines-of (drop at text)))
 
 abbrev μ-loop : tie.MeasureT-loop
 μ-loop text size reading₀ at₀ reading at = length text - at

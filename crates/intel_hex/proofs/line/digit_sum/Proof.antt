@@ -8,7 +8,7 @@ use lib.ListN.{length, drop, getD}
 use borrow.Author.Needs.{needs}
 use Rattle.hex_digits.specs.Digits.{is-digit, all-digits, pair, decoded}
 use Rattle.hex_digits.proofs.Laws.{digits-stop, digits-go, digits-end}
-use Rattle.intel_hex.specs.Lines.{sum}
+use Rattle.intel_hex.specs.Format.{sum}
 use Rattle.intel_hex.proofs.LineLaws.{sum-table}
 use Rattle.intel_hex.proofs.line.digit_sum.Statement.{statement}
 use Rattle.intel_hex.proofs.line.digit_sum.Tie as tie

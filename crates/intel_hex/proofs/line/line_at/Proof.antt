@@ -10,7 +10,7 @@ use lib.ListN.{length, getD}
 use borrow.Author.Needs.{needs}
 use Rattle.octets.specs.Octets.{part}
 use Rattle.hex_digits.specs.Digits.{all-digits, decoded}
-use Rattle.intel_hex.specs.Lines.{mark, sum}
+use Rattle.intel_hex.specs.Format.{mark, sum}
 use Rattle.intel_hex.specs.Import.{data-length, kind, address, shape-wrong}
 use Rattle.intel_hex.specs.Inner.{Begins, LineOf, AtLine, SumOf, line-end}
 use Rattle.intel_hex.specs.declared.line.Line.{Line}

@@ -1,4 +1,5 @@
--- A line of Intel HEX: a mark, and in hexadecimal the number of its data bytes, an address of two bytes, a type, the data and a checksum.
+-- The format's own numbers. A line of Intel HEX is a mark, and in hexadecimal the number of its data bytes, an address of two bytes, a
+-- type, the data and a checksum.
 use Prim.Native.Nat.{ℕ, _+_, _-_, _*_, _%_}
 use mathlib.Core.List.{List, [], _∷_}
 
@@ -11,7 +12,7 @@ line-feed = 0x0A
 abbrev pub carriage-return : ℕ
 carriage-return = 0x0D
 
--- the types
+-- the types, called kinds in the code and the definitions
 abbrev pub data-line : ℕ
 data-line = 0
 
@@ -22,9 +23,13 @@ end-line = 1
 abbrev pub upper-line : ℕ
 upper-line = 4
 
--- the addresses that the lower 16 bits tell apart
-abbrev pub segment : ℕ
-segment = 65536
+-- how many addresses have the same upper 16 bits: 64 KiB
+abbrev pub boundary : ℕ
+boundary = 65536
+
+-- the bytes of a line before its data
+abbrev pub head-size : ℕ
+head-size = 4
 
 -- the mark and the digits of a line of n data bytes
 abbrev pub line-width : ℕ → ℕ
