@@ -15,12 +15,15 @@ use Rattle.octets.proofs.Tables.{getD-table, table-ext}
 use Rattle.stops.specs.Stops.{first-of}
 use Rattle.stops.proofs.Laws.{passes, neither}
 use Rattle.hex_digits.specs.Digits.{digit-value, pair, decoded}
-use Rattle.intel_hex.specs.Format.{data-line, upper-line, boundary}
+use Rattle.hex_lines.specs.Format.{data-line, upper-line, boundary}
+use Rattle.hex_lines.specs.Line.{byte-of, data-length, address, kind, data-bytes, upper-bits, shape-wrong, checksum-wrong}
+use Rattle.hex_lines.specs.Inner.{Begins}
+use Rattle.hex_lines.proofs.ReadLaws.{line-size}
 use Rattle.intel_hex.specs.Export.{image-wrong}
-use Rattle.intel_hex.specs.Import.{lines-of, byte-of, data-length, address, kind, data-bytes, upper-bits, shape-wrong, checksum-wrong, data-place, misplaced, start, after, image-after, or-else, text-stop, stored, import-stop, import-by, import}
-use Rattle.intel_hex.specs.Inner.{Begins, checks}
+use Rattle.intel_hex.specs.Import.{lines-of, data-place, misplaced, start, after, image-after, or-else, text-stop, stored, import-stop, import-by, import}
+use Rattle.intel_hex.specs.Inner.{checks}
 use Rattle.intel_hex.specs.declared.import.Reading.{Reading}
-use Rattle.intel_hex.proofs.LineLaws.{line-size, begun, stop-on, or-false}
+use Rattle.intel_hex.proofs.TextLaws.{begun, stop-on, or-false}
 
 -- ---- the reading behind a line
 

@@ -14,9 +14,10 @@ use Rattle.octets.proofs.Laws.{length-put, put-before, put-within, put-after}
 use Rattle.octets.proofs.Tables.{length-table, getD-table}
 use Rattle.stops.specs.Stops.{first-of}
 use Rattle.stops.proofs.Laws.{passes}
-use Rattle.intel_hex.specs.Format.{data-line, upper-line}
+use Rattle.hex_lines.specs.Format.{data-line, upper-line}
+use Rattle.hex_lines.specs.Line.{byte-of, data-length, address, kind, data-bytes, upper-bits, malformed, checksum-wrong}
 use Rattle.intel_hex.specs.Export.{image-wrong}
-use Rattle.intel_hex.specs.Import.{Lines, line, rest, lines-of, bare, byte-of, data-length, address, kind, data-bytes, upper-bits, malformed, checksum-wrong, data-place, misplaced, start, line-stop, after, image-after, text-stop, stored, import-stop, import-by, import}
+use Rattle.intel_hex.specs.Import.{Lines, line, rest, lines-of, bare, data-place, misplaced, start, line-stop, after, image-after, text-stop, stored, import-stop, import-by, import}
 use Rattle.intel_hex.specs.Names.{LineNames, Names, Precisely}
 use Rattle.intel_hex.specs.declared.import.Reading.{Reading}
 use Rattle.intel_hex.proofs.ImportLaws.{after-data, after-upper, after-end, image-data, image-other, both-none, Placed, well-placed}

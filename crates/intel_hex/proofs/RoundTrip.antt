@@ -21,13 +21,17 @@ use Rattle.stops.specs.Stops.{first-of}
 use Rattle.stops.proofs.Laws.{passes}
 use Rattle.hex_digits.specs.Digits.{digit-value, all-digits, pair, encoded}
 use Rattle.hex_digits.proofs.Laws.{Bytes, length-encoded, encoded-digits, pair-encoded}
-use Rattle.intel_hex.specs.Format.{mark, line-feed, data-line, end-line, upper-line, boundary, checksum}
-use Rattle.intel_hex.specs.Export.{line-bytes, hex-line, place, upper, upper-part, data-part, block, blocks, line-count, hex-text, image-wrong, export-stop, export-by, export}
-use Rattle.intel_hex.specs.Import.{lines-of, byte-of, bytes-of, data-length, address, kind, data-bytes, upper-bits, shape-wrong, checksum-wrong, data-place, misplaced, start, after, image-after, or-else, text-stop, stored, import}
-use Rattle.intel_hex.specs.Inner.{line-end, end-length, Begins, checks}
+use Rattle.hex_lines.specs.Format.{mark, line-feed, data-line, end-line, upper-line, boundary, checksum}
+use Rattle.hex_lines.specs.Line.{line-bytes, hex-line, byte-of, bytes-of, data-length, address, kind, data-bytes, upper-bits, shape-wrong, checksum-wrong}
+use Rattle.hex_lines.specs.Inner.{line-end, end-length, Begins}
+use Rattle.hex_lines.proofs.WriteLaws.{length-hex-line}
+use Rattle.hex_lines.proofs.ReadLaws.{line-size, end-is-feed}
+use Rattle.intel_hex.specs.Export.{place, upper, upper-part, data-part, block, blocks, line-count, hex-text, image-wrong, export-stop, export-by, export}
+use Rattle.intel_hex.specs.Import.{lines-of, data-place, misplaced, start, after, image-after, or-else, text-stop, stored, import}
+use Rattle.intel_hex.specs.Inner.{checks}
 use Rattle.intel_hex.specs.declared.import.Reading.{Reading}
-use Rattle.intel_hex.proofs.ExportLaws.{length-hex-line, upper-some, upper-none, image-fits}
-use Rattle.intel_hex.proofs.LineLaws.{line-size, begun, stop-on, stored-on, end-is-feed}
+use Rattle.intel_hex.proofs.ExportLaws.{upper-some, upper-none, image-fits}
+use Rattle.intel_hex.proofs.TextLaws.{begun, stop-on, stored-on}
 use Rattle.intel_hex.proofs.ImportLaws.{after-data, after-upper, after-end, image-data, image-other, text-end, stored-end, import-done, stop-text}
 
 -- ---- a line as it was written, with a text behind it

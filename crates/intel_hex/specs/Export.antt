@@ -10,19 +10,9 @@ use Rattle.octets.specs.Limits.{image-limit, data-per-line}
 use Rattle.octets.specs.Octets.{part, put, bytes}
 use Rattle.stops.specs.Stops.{first-of}
 use Rattle.stops.specs.View.{check-number}
-use Rattle.hex_digits.specs.Digits.{encoded}
-use Rattle.intel_hex.specs.Format.{mark, line-feed, data-line, end-line, upper-line, boundary, checksum}
+use Rattle.hex_lines.specs.Format.{data-line, end-line, upper-line, boundary}
+use Rattle.hex_lines.specs.Line.{hex-line}
 use Rattle.intel_hex.specs.declared.export.Exported.{Exported}
-
--- a line's bytes before its checksum: length, address, type and data
-abbrev pub line-bytes : (kind address : ℕ) → List ℕ → List ℕ
-line-bytes kind address s = length s ∷ (bytes 2 address ++ (kind ∷ s))
-
--- the line of these
-unfoldable pub hex-line : (kind address : ℕ) → List ℕ → List ℕ
-hex-line kind address s =
-    let b = line-bytes kind address s in
-    mark ∷ (encoded (b ++ (checksum b ∷ [])) ++ (line-feed ∷ []))
 
 -- the address of data line k, counted from 0, and its upper bits
 abbrev pub place : ℕ → ℕ

@@ -1,5 +1,4 @@
 -- Intel HEX.
-pub mod Format
 pub mod Export
 pub mod Import
 pub mod Names

@@ -4,8 +4,9 @@ use mathlib.Core.Path.{_≡_}
 use mathlib.Core.Logic.{_⊎_}
 use mathlib.Core.List.{List}
 use lib.ListN.{length, getD}
-use Rattle.intel_hex.specs.Format.{data-line, head-size}
-use Rattle.intel_hex.specs.Import.{Lines, line, rest, bare, byte-of, data-length, kind, data-place, after}
+use Rattle.hex_lines.specs.Format.{data-line, head-size}
+use Rattle.hex_lines.specs.Line.{byte-of, data-length, kind}
+use Rattle.intel_hex.specs.Import.{Lines, line, rest, bare, data-place, after}
 use Rattle.intel_hex.specs.declared.import.Reading.{Reading}
 
 -- a data line names byte b for address i

@@ -1,93 +1,28 @@
 // An image as a text of Intel HEX.
-use crate::line::BOUNDARY;
-use crate::line::DATA_AT;
-use crate::line::DATA_LINE;
-use crate::line::END_LINE;
-use crate::line::LEAST_FED;
-use crate::line::LEAST_LINE;
-use crate::line::LINE_FEED;
-use crate::line::MARK;
-use crate::line::UPPER_LINE;
-use crate::line::image_wrong;
-use hex_digits::encode;
+use crate::image_wrong;
+use hex_lines::BOUNDARY;
+use hex_lines::DATA_LINE;
+use hex_lines::END_LINE;
+use hex_lines::LEAST_FED;
+use hex_lines::UPPER_LINE;
+use hex_lines::write::put_line_at;
+use hex_lines::write::two_bytes;
 use octets::limits::DATA_PER_LINE;
 use stops::Check;
 use stops::Stop;
 ghost use mathlib.Core.Path.{_≡_};
 ghost use mathlib.Core.Bool.{false};
-ghost use mathlib.Core.List.{[], _∷_, _++_};
-ghost use Prim.Native.Nat.{_+_, _*_, _/_, _%_, _-_, _^_, _≤_, _<_, min};
+ghost use Prim.Native.Nat.{_+_, _*_, _/_, _%_, _-_, _≤_, _<_, min};
 ghost use lib.ListN.{length};
 ghost use Rattle.octets.specs.Limits.{image-limit, data-per-line};
-ghost use Rattle.octets.specs.Octets.{bytes};
-ghost use Rattle.intel_hex.specs.Format.{boundary, sum};
-ghost use Rattle.intel_hex.specs.Export.{hex-line, upper-part, data-part, block, place, line-count, hex-text, image-wrong, export, exported-as};
-ghost use Rattle.intel_hex.specs.Inner.{text-length, Wrote};
+ghost use Rattle.hex_lines.specs.Inner.{Wrote};
+ghost use Rattle.intel_hex.specs.Export.{upper-part, data-part, block, place, line-count, hex-text, image-wrong, export, exported-as};
+ghost use Rattle.intel_hex.specs.Inner.{text-length};
 
 // What an export answers: the length of the text, or why it stopped, and then 0.
 pub struct Exported {
     pub check: Check,
     pub written: usize,
-}
-
-// The sum of bytes.
-fn sum(s: &[u8]) -> usize
-    requires { ⌜ length (now s) < 256 ⌝ }
-    ensures { λ r. ⌜ (r ≡ sum (now (s .entry))) × (r < 2 ^ 16) ⌝ }
-{
-    let mut total: usize = 0;
-    for i in 0..s.len() {
-        total += s[i] as usize;
-    }
-    total
-}
-
-// The checksum of bytes with this sum.
-fn checksum(total: usize) -> u8
-    ensures { λ r. ⌜ r ≡ (256 - total % 256) % 256 ⌝ }
-{
-    ((256 - total % 256) % 256) as u8
-}
-
-// The two bytes of a number, the higher first.
-fn two_bytes(n: usize) -> [u8; 2]
-    requires { ⌜ n < boundary ⌝ }
-    ensures { λ r. ⌜ r ≡ bytes 2 n ⌝ }
-{
-    [(n / 256) as u8, (n % 256) as u8]
-}
-
-// The bytes that a line begins with: the number of its data bytes, its address and its type.
-fn line_head(n: usize, kind: u8, address: usize) -> [u8; 4]
-    requires { ⌜ (n < 256) × (address < boundary) ⌝ }
-    ensures { λ r. ⌜ r ≡ n ∷ (bytes 2 address ++ (kind ∷ [])) ⌝ }
-{
-    let low = two_bytes(address);
-    [n as u8, low[0], low[1], kind]
-}
-
-// Writes a line to the front of out, and answers its length.
-fn put_line(out: &mut [u8], kind: u8, address: usize, s: &[u8]) -> usize
-    requires { ⌜ (length (now s) < 256) × (address < boundary) × (12 + 2 * length (now s) ≤ length (now out)) ⌝ }
-    ensures { λ r. ⌜ Wrote (now (out .entry)) 0 (hex-line kind address (now (s .entry))) (now (out .exit)) r ⌝ }
-{
-    let n = s.len();
-    let head = line_head(n, kind, address);
-    let last = [checksum(sum(&head) + sum(s))];
-    out[0] = MARK;
-    encode(&head, out, 1);
-    encode(s, out, DATA_AT);
-    encode(&last, out, DATA_AT + 2 * n);
-    out[LEAST_LINE + 2 * n] = LINE_FEED;
-    LEAST_FED + 2 * n
-}
-
-// Writes a line from offset at on, and answers where it ends.
-fn put_line_at(text: &mut [u8], at: usize, kind: u8, address: usize, s: &[u8]) -> usize
-    requires { ⌜ (length (now s) < 256) × (address < boundary) × (at + length (hex-line kind address (now s)) ≤ length (now text)) ⌝ }
-    ensures { λ r. ⌜ Wrote (now (text .entry)) at (hex-line kind address (now (s .entry))) (now (text .exit)) r ⌝ }
-{
-    at + put_line(&mut text[at..], kind, address, s)
 }
 
 // Writes the type 04 line before data line k, if there is one, from offset at on, and answers where it ends.

@@ -1,16 +1,16 @@
 // A text of Intel HEX read into an image: one pass judges the text, and one stores its data.
-use crate::line::BOUNDARY;
-use crate::line::DATA_AT;
-use crate::line::DATA_LINE;
-use crate::line::Found;
-use crate::line::LEAST_LINE;
-use crate::line::Line;
-use crate::line::UPPER_LINE;
-use crate::line::image_wrong;
-use crate::line::line_at;
-use crate::line::line_of;
-use crate::line::number;
+use crate::image_wrong;
 use hex_digits::decode;
+use hex_lines::BOUNDARY;
+use hex_lines::DATA_AT;
+use hex_lines::DATA_LINE;
+use hex_lines::LEAST_LINE;
+use hex_lines::UPPER_LINE;
+use hex_lines::read::Found;
+use hex_lines::read::Line;
+use hex_lines::read::line_at;
+use hex_lines::read::line_of;
+use hex_lines::read::number;
 use stops::Check;
 use stops::Stop;
 ghost use mathlib.Core.Path.{_≡_};
@@ -18,9 +18,11 @@ ghost use mathlib.Core.Option.{none};
 ghost use Prim.Native.Nat.{_+_, _*_, _^_, _≤_, _<_};
 ghost use lib.ListN.{length, drop};
 ghost use Rattle.stops.specs.View.{check-number};
-ghost use Rattle.intel_hex.specs.Format.{boundary, data-line};
-ghost use Rattle.intel_hex.specs.Import.{lines-of, kind, data-length, data-place, misplaced, start, after, image-after, text-stop, stored, import, imported-as};
-ghost use Rattle.intel_hex.specs.Inner.{Begins, LineOf, checks, JudgedAs};
+ghost use Rattle.hex_lines.specs.Format.{boundary, data-line};
+ghost use Rattle.hex_lines.specs.Line.{kind, data-length};
+ghost use Rattle.hex_lines.specs.Inner.{Begins, LineOf};
+ghost use Rattle.intel_hex.specs.Import.{lines-of, data-place, misplaced, start, after, image-after, text-stop, stored, import, imported-as};
+ghost use Rattle.intel_hex.specs.Inner.{checks, JudgedAs};
 
 // What the lines so far have set: the upper address bits, the first address above the data, and whether the end line has been read.
 pub struct Reading {

@@ -3,7 +3,7 @@ use native.Mathlib.Omega.{arith}
 use lib.ListN.{length-append}
 use borrow.Author.Needs.{needs}
 use Rattle.intel_hex.specs.Export.{upper-part, data-part, block}
-use Rattle.intel_hex.proofs.ExportLaws.{wrote-on}
+use Rattle.hex_lines.proofs.WriteLaws.{wrote-on}
 use Rattle.intel_hex.proofs.export.put_block.Statement.{statement}
 use Rattle.intel_hex.proofs.export.put_block.Tie as tie
 

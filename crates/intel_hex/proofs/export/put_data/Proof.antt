@@ -2,7 +2,8 @@
 use native.Mathlib.Omega.{arith}
 use lib.ListN.{length-take}
 use borrow.Author.Needs.{needs}
-use Rattle.intel_hex.proofs.ExportLaws.{wrote-as, data-part-is}
+use Rattle.intel_hex.proofs.ExportLaws.{data-part-is}
+use Rattle.hex_lines.proofs.WriteLaws.{wrote-as}
 use Rattle.intel_hex.proofs.export.put_data.Statement.{statement}
 use Rattle.intel_hex.proofs.export.put_data.Tie as tie
 

@@ -5,10 +5,12 @@ use Prim.Native.Nat.{_-_, _≤_}
 use native.Mathlib.Omega.{arith}
 use lib.ListN.{length, length-append}
 use borrow.Author.Needs.{needs}
-use Rattle.intel_hex.specs.Format.{end-line}
-use Rattle.intel_hex.specs.Export.{hex-line, blocks, hex-text}
-use Rattle.intel_hex.specs.Inner.{Wrote}
-use Rattle.intel_hex.proofs.ExportLaws.{wrote-none, wrote-as, wrote-on, block-fits, blocks-more, text-whole, image-fits}
+use Rattle.hex_lines.specs.Format.{end-line}
+use Rattle.hex_lines.specs.Line.{hex-line}
+use Rattle.hex_lines.specs.Inner.{Wrote}
+use Rattle.hex_lines.proofs.WriteLaws.{wrote-none, wrote-as, wrote-on}
+use Rattle.intel_hex.specs.Export.{blocks, hex-text}
+use Rattle.intel_hex.proofs.ExportLaws.{block-fits, blocks-more, text-whole, image-fits}
 use Rattle.intel_hex.proofs.export.put_text.Statement.{statement}
 use Rattle.intel_hex.proofs.export.put_text.Tie as tie
 

@@ -2,9 +2,11 @@
 use mathlib.Core.Path.{_≡_, sym, ap, _∙_}
 use native.Mathlib.Omega.{arith}
 use borrow.Author.Needs.{needs}
-use Rattle.intel_hex.specs.Format.{upper-line}
-use Rattle.intel_hex.specs.Export.{hex-line, upper-part}
-use Rattle.intel_hex.proofs.ExportLaws.{wrote-none, wrote-as, upper-some, upper-none}
+use Rattle.hex_lines.specs.Format.{upper-line}
+use Rattle.hex_lines.specs.Line.{hex-line}
+use Rattle.hex_lines.proofs.WriteLaws.{wrote-none, wrote-as}
+use Rattle.intel_hex.specs.Export.{upper-part}
+use Rattle.intel_hex.proofs.ExportLaws.{upper-some, upper-none}
 use Rattle.intel_hex.proofs.export.put_upper.Statement.{statement}
 use Rattle.intel_hex.proofs.export.put_upper.Tie as tie
 

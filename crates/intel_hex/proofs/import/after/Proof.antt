@@ -2,7 +2,7 @@
 use mathlib.Core.Path.{sym, ap, _∙_}
 use Prim.Native.Nat.{ℕ, _+_, _*_}
 use borrow.Author.Needs.{needs}
-use Rattle.intel_hex.specs.Format.{boundary}
+use Rattle.hex_lines.specs.Format.{boundary}
 use Rattle.intel_hex.proofs.ImportLaws.{after-data, after-upper, after-end, upper-line-is, upper-is}
 use Rattle.intel_hex.proofs.import.after.Statement.{statement}
 use Rattle.intel_hex.proofs.import.after.Tie as tie

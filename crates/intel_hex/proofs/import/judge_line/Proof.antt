@@ -9,12 +9,14 @@ use lib.ListN.{length, drop}
 use borrow.Author.Needs.{needs}
 use Rattle.stops.specs.View.{check-number}
 use Rattle.stops.specs.declared.Check.{Check}
-use Rattle.intel_hex.specs.Format.{boundary}
+use Rattle.hex_lines.specs.Format.{boundary}
+use Rattle.hex_lines.specs.Inner.{AtLine, FoundIn}
+use Rattle.hex_lines.proofs.ReadLaws.{line-size}
 use Rattle.intel_hex.specs.Import.{lines-of, after, or-else, text-stop}
-use Rattle.intel_hex.specs.Inner.{AtLine, FoundIn, checks, JudgedAs}
+use Rattle.intel_hex.specs.Inner.{checks, JudgedAs}
 use Rattle.intel_hex.specs.declared.import.Reading.{Reading}
-use Rattle.intel_hex.specs.declared.line.Line.{Line}
-use Rattle.intel_hex.proofs.LineLaws.{line-size, begun, stop-on, not-begun}
+use Rattle.hex_lines.specs.declared.read.Line.{Line}
+use Rattle.intel_hex.proofs.TextLaws.{begun, stop-on, not-begun}
 use Rattle.intel_hex.proofs.import.judge_line.Statement.{statement}
 use Rattle.intel_hex.proofs.import.judge_line.Tie as tie
 

@@ -6,7 +6,7 @@ use Prim.Native.Nat.{ℕ, _+_, _*_}
 use lib.Dec.{eqb}
 use borrow.Author.Needs.{needs}
 use Rattle.stops.proofs.Laws.{no-lines, one-more}
-use Rattle.intel_hex.specs.Format.{data-line, boundary}
+use Rattle.hex_lines.specs.Format.{data-line, boundary}
 use Rattle.intel_hex.specs.Import.{misplaced}
 use Rattle.intel_hex.specs.Inner.{checks}
 use Rattle.intel_hex.proofs.import.line_check.Statement.{statement}

@@ -10,12 +10,13 @@ use Rattle.octets.specs.Octets.{put}
 use Rattle.octets.proofs.Lent.{lent}
 use Rattle.octets.proofs.Tables.{length-table}
 use Rattle.hex_digits.specs.Digits.{pair, decoded}
-use Rattle.intel_hex.specs.Format.{data-line, boundary}
-use Rattle.intel_hex.specs.Import.{kind, data-length, data-place, image-after}
-use Rattle.intel_hex.specs.Inner.{Begins, LineOf}
+use Rattle.hex_lines.specs.Format.{data-line, boundary}
+use Rattle.hex_lines.specs.Line.{kind, data-length}
+use Rattle.hex_lines.specs.Inner.{Begins, LineOf}
+use Rattle.intel_hex.specs.Import.{data-place, image-after}
 use Rattle.intel_hex.specs.declared.import.Reading.{Reading}
-use Rattle.intel_hex.specs.declared.line.Line.{Line}
-use Rattle.intel_hex.proofs.LineLaws.{begun}
+use Rattle.hex_lines.specs.declared.read.Line.{Line}
+use Rattle.intel_hex.proofs.TextLaws.{begun}
 use Rattle.intel_hex.proofs.ImportLaws.{image-data, image-other, data-decoded}
 use Rattle.intel_hex.proofs.import.store_line.Statement.{statement}
 use Rattle.intel_hex.proofs.import.store_line.Tie as tie

@@ -7,12 +7,14 @@ use native.Mathlib.Omega.{arith}
 use lib.ListN.{length, drop, length-drop}
 use lib.Seq.{drop-drop}
 use borrow.Author.Needs.{needs}
-use Rattle.intel_hex.specs.Format.{boundary, data-line}
-use Rattle.intel_hex.specs.Import.{lines-of, kind, data-length, data-place, start, after, image-after, text-stop, stored}
-use Rattle.intel_hex.specs.Inner.{Begins, LineOf}
+use Rattle.hex_lines.specs.Format.{boundary, data-line}
+use Rattle.hex_lines.specs.Line.{kind, data-length}
+use Rattle.hex_lines.specs.Inner.{Begins, LineOf}
+use Rattle.hex_lines.proofs.ReadLaws.{line-size}
+use Rattle.intel_hex.specs.Import.{lines-of, data-place, start, after, image-after, text-stop, stored}
 use Rattle.intel_hex.specs.declared.import.Reading.{Reading}
-use Rattle.intel_hex.specs.declared.line.Line.{Line}
-use Rattle.intel_hex.proofs.LineLaws.{line-size, begun, stored-on, judged-begins}
+use Rattle.hex_lines.specs.declared.read.Line.{Line}
+use Rattle.intel_hex.proofs.TextLaws.{begun, stored-on, judged-begins}
 use Rattle.intel_hex.proofs.ImportLaws.{passed, stored-end}
 use Rattle.intel_hex.proofs.import.store_text.Statement.{statement}
 use Rattle.intel_hex.proofs.import.store_text.Tie as tie

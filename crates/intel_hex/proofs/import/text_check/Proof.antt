@@ -11,7 +11,7 @@ use Rattle.stops.specs.View.{check-number, stop-number}
 use Rattle.stops.specs.declared.Check.{Check}
 use Rattle.stops.specs.declared.Check.the-variants.{Pass, Stopped}
 use Rattle.stops.specs.declared.Stop.{Stop}
-use Rattle.intel_hex.specs.Format.{boundary}
+use Rattle.hex_lines.specs.Format.{boundary}
 use Rattle.intel_hex.specs.Import.{lines-of, start, or-else, text-stop}
 use Rattle.intel_hex.specs.Inner.{JudgedAs}
 use Rattle.intel_hex.specs.declared.import.Reading.{Reading}

@@ -1,0 +1,4 @@
+-- Lines of Intel HEX.
+pub mod Format
+pub mod Line
+pub mod Inner
