@@ -7,12 +7,12 @@ use native.Mathlib.Nat.{add-zero, mod-eq-of-lt}
 use native.Mathlib.Numerals.{add-one}
 use native.Mathlib.Omega.{arith}
 use lib.Dec.{ltb}
-use lib.ListN.{length, take, drop, getD, set, length-append, take-append-drop, drop-of-length-le}
-use lib.Seq.{take-suc, drop-cons, length-take-le}
+use lib.ListN.{length, take, getD, set, length-append, take-append-drop}
+use lib.Seq.{take-suc, length-take-le}
 use borrow.Author.Tests.{ltb-true, ltb-false, le-leb, lt-leb}
 use Rattle.octets.specs.Octets.{put}
 use Rattle.octets.specs.Table.{table}
-use Rattle.octets.proofs.Laws.{and-true}
+use Rattle.octets.proofs.Laws.{and-true, and-assoc}
 use Rattle.octets.proofs.Lent.{set-on}
 use Rattle.hex_digits.specs.Digits.{is-digit, digit-value, digit-of, all-digits, pair, encoded}
 
@@ -116,16 +116,18 @@ digit-at [] i d h = absurd (omega arith)
 digit-at (c ∷ s) zero d h = and-true (is-digit c) (all-digits s) d .0
 digit-at (c ∷ s) (suc i) d h = digit-at s i (and-true (is-digit c) (all-digits s) d .1) (omega arith)
 
--- how `all-digits` goes from one offset to the next
-pub digits-stop : (s : List ℕ) (i : ℕ) → i < length s → is-digit (getD s i 0) ≡ false → all-digits (drop i s) ≡ false
+pub all-digits-append : (s t : List ℕ) → all-digits (s ++ t) ≡ all-digits s && all-digits t
 unfolding all-digits
-digits-stop s i h e = ap all-digits (drop-cons s i 0 h) ∙ ap (λ (t : Bool). t && all-digits (drop (suc i) s)) e
+all-digits-append [] t = refl
+all-digits-append (c ∷ s) t = ap (λ (b : Bool). is-digit c && b) (all-digits-append s t) ∙ sym (and-assoc (is-digit c) (all-digits s) (all-digits t))
 
-pub digits-go : (s : List ℕ) (i : ℕ) → i < length s → is-digit (getD s i 0) ≡ true → all-digits (drop i s) ≡ all-digits (drop (i + 1) s)
+-- one byte more
+pub digits-more : (s : List ℕ) (i : ℕ) → i < length s → all-digits (take (i + 1) s) ≡ all-digits (take i s) && is-digit (getD s i 0)
 unfolding all-digits
-digits-go s i h e =
-    ap all-digits (drop-cons s i 0 h) ∙ ap (λ (t : Bool). t && all-digits (drop (suc i) s)) e ∙ ap (λ (k : ℕ). all-digits (drop k s)) (sym (add-one i))
-
-pub digits-end : (s : List ℕ) (i : ℕ) → length s ≤ i → all-digits (drop i s) ≡ true
-unfolding all-digits
-digits-end s i h = ap all-digits (drop-of-length-le s h)
+digits-more s i h =
+    ap (λ (k : ℕ). all-digits (take k s)) (add-one i) ∙ ap all-digits (take-suc s i 0 h) ∙ all-digits-append (take i s) (getD s i 0 ∷ [])
+    ∙ ap (λ (b : Bool). all-digits (take i s) && b) (and-right (is-digit (getD s i 0)))
+  where
+    and-right : (b : Bool) → b && true ≡ b
+    and-right true = refl
+    and-right false = refl

@@ -34,7 +34,7 @@ pub enum Found {
 
 pub enum Summed {
     NoDigit,
-    Sum(usize),
+    Sum(u32),
 }
 
 // How many bytes end a line at offset i: 0 where no line ends there.
@@ -88,22 +88,22 @@ fn shape_wrong(kind: u8, n: usize, address: usize) -> bool
         | ((kind == UPPER_LINE) & (n == 2) & (address == 0)))
 }
 
-// The sum of the bytes whose digits are s.
+// The sum of the bytes whose digits are s. The loop has no branch, so that a compiler can take several digits at once.
 fn digit_sum(s: &[u8]) -> Summed
     requires { ⌜ (2 * (length (now s) / 2) ≡ length (now s)) × (length (now s) < 1000) ⌝ }
     ensures { λ r. ⌜ SumOf (now (s .entry)) r ⌝ }
 {
-    let mut total: usize = 0;
+    let mut total: u32 = 0;
+    let mut digits = true;
     for i in 0..s.len() / 2 {
-        if is_digit(s[2 * i]) {} else {
-            return Summed::NoDigit;
-        }
-        if is_digit(s[2 * i + 1]) {} else {
-            return Summed::NoDigit;
-        }
-        total += pair(s, 2 * i) as usize;
+        digits = digits & is_digit(s[2 * i]) & is_digit(s[2 * i + 1]);
+        total += pair(s, 2 * i) as u32;
     }
-    Summed::Sum(total)
+    if digits {
+        Summed::Sum(total)
+    } else {
+        Summed::NoDigit
+    }
 }
 
 // What stands at the front of s.

@@ -15,7 +15,7 @@ use Rattle.intel_hex.specs.Import.{lines-of, data-place, start, after, i
 use Rattle.intel_hex.specs.declared.import.Reading.{Reading}
 use Rattle.hex_lines.specs.declared.read.Line.{Line}
 use Rattle.intel_hex.proofs.TextLaws.{begun, stored-on, judged-begins}
-use Rattle.intel_hex.proofs.ImportLaws.{passed, stored-end}
+use Rattle.intel_hex.proofs.ImportLaws.{Passed, passed, stored-end}
 use Rattle.intel_hex.proofs.import.store_text.Statement.{statement}
 use Rattle.intel_hex.proofs.import.store_text.Tie as tie
 
@@ -28,48 +28,58 @@ Inv-loop text image₀ reading₀ at₀ image reading at =
 abbrev μ-loop : tie.MeasureT-loop
 μ-loop text image₀ reading₀ at₀ image reading at = length text - at
 
--- the line at offset `at` of a text that passes
-module _ (text s : List ℕ) (at size : ℕ) (r : Reading) (here : s ≡ drop at text) (inside : at < length text) (passes : text-stop size r (lines-of (drop at text)) ≡ none) where
-  left : length s ≡ length text - at
-  left = ap length here ∙ length-drop at text
+-- a line further in a text that passes
+record Further (text s : List ℕ) (at n size : ℕ) (r r′ : Reading) : Type 0 where
+  more : 0 < n
+  inside : at + n ≤ length text
+  passes : text-stop size r′ (lines-of (drop (at + n) text)) ≡ none
+  stores : (image image′ : List ℕ) → image′ ≡ image-after r image s → stored r image (lines-of (drop at text)) ≡ stored r′ image′ (lines-of (drop (at + n) text))
 
-  passes-s : text-stop size r (lines-of s) ≡ none
-  passes-s = ap (λ (t : List ℕ). text-stop size r (lines-of t)) here ∙ passes
-
+-- the line at offset `at` of such a text
+record Here (text s : List ℕ) (at size : ℕ) (r : Reading) : Type 0 where
   begins : Begins s
-  begins = judged-begins s (omega (arith, left)) size r passes-s
-
+  long : line-size s ≤ length s
   fits : kind s ≡ data-line → data-place r s + data-length s ≤ size
-  fits k = passed size r s begins passes-s .placed k .fits
+  further : (l : Line) (r′ : Reading) (n : ℕ) → LineOf s l → r′ ≡ after r s → n ≡ 11 + 2 * l .length + l .tail → Further text s at n size r r′
 
-  -- a line further
-  module _ (l : Line) (r′ : Reading) (n : ℕ) (o : LineOf s l) (er : r′ ≡ after r s) (en : n ≡ 11 + 2 * l .length + l .tail) where
-    size-is : n ≡ line-size s
-    size-is = en ∙ (λ i. 11 + 2 * o .length i + o .tail i)
+here : (text s : List ℕ) (at size : ℕ) (r : Reading) → s ≡ drop at text → at < length text → text-stop size r (lines-of (drop at text)) ≡ none → Here text s at size r
+here text s at size r e inside passes = record {
+  begins = begins;
+  long = begun s begins .inside;
+  fits = λ k. p .placed k .fits;
+  further = λ l r′ n o er en.
+      let m : n ≡ line-size s = en ∙ (λ i. 11 + 2 * o .length i + o .tail i) in
+      let behind : drop (line-size s) s ≡ drop (at + n) text = (λ i. drop (sym m i) (e i)) ∙ drop-drop n at text in
+      record {
+        more = omega (arith, en);
+        inside = omega (arith, left, m, begun s begins .inside);
+        passes = (λ i. text-stop size (er i) (lines-of (sym behind i))) ∙ p .on;
+        stores = λ image image′ ei.
+            ap (λ (t : List ℕ). stored r image (lines-of t)) (sym e) ∙ stored-on s (begun s begins) r image ∙ (λ i. stored (sym er i) (sym ei i) (lines-of (behind i)));
+      };
+}
+  where
+    left : length s ≡ length text - at
+    left = ap length e ∙ length-drop at text
 
-    within : at + n ≤ length text
-    within = omega (arith, left, size-is, begun s begins .inside)
+    passes-s : text-stop size r (lines-of s) ≡ none
+    passes-s = ap (λ (t : List ℕ). text-stop size r (lines-of t)) e ∙ passes
 
-    more : 0 < n
-    more = omega (arith, en)
+    begins : Begins s
+    begins = judged-begins s (omega (arith, left)) size r passes-s
 
-    behind : drop (line-size s) s ≡ drop (at + n) text
-    behind = (λ i. drop (sym size-is i) (here i)) ∙ drop-drop n at text
+    p : Passed size r s
+    p = passed size r s begins passes-s
 
-    passes-on : text-stop size r′ (lines-of (drop (at + n) text)) ≡ none
-    passes-on = (λ i. text-stop size (er i) (lines-of (sym behind i))) ∙ passed size r s begins passes-s .on
+here-at : (c : tie.After-rest Inv-loop μ-loop)
+    → Here (c .before .before .before .before .before .before .args .text .now) (c .rest .result .now) (c .before .before .loop .at) (length (c .before .before .before .before .before .before .args .image .now)) (c .before .before .loop .reading)
+here-at c = let k = c .before .before .loop in here _ _ (k .at) _ (k .reading) (c .rest .ensures) (c .before .loop-test .taken) (k .inv .3)
 
-    stored-further : (image image′ : List ℕ) → image′ ≡ image-after r image s → stored r image (lines-of (drop at text)) ≡ stored r′ image′ (lines-of (drop (at + n) text))
-    stored-further image image′ e =
-        ap (λ (t : List ℕ). stored r image (lines-of t)) (sym here) ∙ stored-on s (begun s begins) r image
-        ∙ (λ i. stored (sym er i) (sym e i) (lines-of (behind i)))
-
--- the line was found to stand there
-here-begins : (c : tie.After-rest Inv-loop μ-loop) → Begins (c .rest .result .now)
-here-begins c =
-    let k = c .before .before .loop in
-    let a = c .before .before .before .before .before .before .args in
-    begins (a .text .now) _ (k .at) (length (a .image .now)) (k .reading) (c .rest .ensures) (c .before .loop-test .taken) (k .inv .3)
+further-at : (c : tie.After-line-length Inv-loop μ-loop)
+    → Further (c .before .before .before .before .before .before .before .before .before .before .before .before .before .args .text .now) (c .before .before .before .before .before .before .before .rest .result .now) (c .before .before .before .before .before .before .before .before .before .loop .at) (c .line-length .result) (length (c .before .before .before .before .before .before .before .before .before .before .before .before .before .args .image .now)) (c .before .before .before .before .before .before .before .before .before .loop .reading) (c .before .after .result)
+further-at c =
+    let lined = c .before .before .before .before .before .before in
+    here-at (lined .before) .further (lined .line-of .result) _ _ (lined .line-of .ensures) (c .before .after .ensures .0) (c .line-length .ensures)
 
 loop-holds : tie.Need-loop-holds Inv-loop μ-loop
 loop-holds c =
@@ -83,53 +93,32 @@ loop-holds c =
     )
 
 line-of-requires : tie.Need-line-of-requires Inv-loop μ-loop
-line-of-requires c κs = omega (arith, begun (c .rest .result .now) (here-begins c) .inside)
+line-of-requires c κs = omega (arith, here-at c .long)
 
 store-line-requires : tie.Need-store-line-requires Inv-loop μ-loop
 store-line-requires c κs =
-    let rested = c .before .before in
-    let k = rested .before .before .loop in
-    let a = rested .before .before .before .before .before .before .args in
-    let f = fits (a .text .now) _ (k .at) (length (a .image .now)) (k .reading) (rested .rest .ensures) (rested .before .loop-test .taken) (k .inv .3) in
-    (here-begins rested, c .before .line-of .ensures, k .inv .1, λ e. omega (arith, f e, k .inv .2))
+    let h = here-at (c .before .before) in
+    let k = c .before .before .before .before .loop in
+    (h .begins, c .before .line-of .ensures, k .inv .1, λ e. omega (arith, h .fits e, k .inv .2))
 
 after-requires : tie.Need-after-requires Inv-loop μ-loop
 after-requires c κs =
     let lined = c .before .before .before .before in
-    (here-begins (lined .before), lined .line-of .ensures, lined .before .before .before .loop .inv .1)
+    (here-at (lined .before) .begins, lined .line-of .ensures, lined .before .before .before .loop .inv .1)
 
 line-length-requires : tie.Need-line-length-requires Inv-loop μ-loop
 line-length-requires c κs = let o = c .before .before .before .before .before .line-of .ensures in (o .short, o .ends)
 
--- the place behind the line
-record Behind (text : List ℕ) (at n : ℕ) : Type 0 where
-  more : 0 < n
-  inside : at + n ≤ length text
-
-placed : (c : tie.After-line-length Inv-loop μ-loop) → Behind (c .before .before .before .before .before .before .before .before .before .before .before .before .before .args .text .now) (c .before .before .before .before .before .before .before .before .before .loop .at) (c .line-length .result)
-placed c =
-    let lined = c .before .before .before .before .before .before in
-    let rested = lined .before in
-    let k = rested .before .before .loop in
-    let a = rested .before .before .before .before .before .before .args in
-    record {
-      more = more (a .text .now) _ (k .at) (length (a .image .now)) (k .reading) (rested .rest .ensures) (rested .before .loop-test .taken) (k .inv .3) _ _ _ (lined .line-of .ensures) (c .before .after .ensures .0) (c .line-length .ensures);
-      inside = within (a .text .now) _ (k .at) (length (a .image .now)) (k .reading) (rested .rest .ensures) (rested .before .loop-test .taken) (k .inv .3) _ _ _ (lined .line-of .ensures) (c .before .after .ensures .0) (c .line-length .ensures);
-    }
-
 loop-again : tie.Need-loop-again Inv-loop μ-loop
 loop-again c =
-    let lined = c .before .before .before .before .before .before in
-    let rested = lined .before in
-    let k = rested .before .before .loop in
-    let a = rested .before .before .before .before .before .before .args in
-    let called = c .before .before .before .before in (
-      omega (arith, placed c .inside),
+    let f = further-at c in
+    let called = c .before .before .before .before in
+    let k = called .before .before .before .before .before .loop in (
+      omega (arith, f .inside),
       c .before .after .ensures .1,
       search needs,
-      passes-on (a .text .now) _ (k .at) (length (a .image .now)) (k .reading) (rested .rest .ensures) (rested .before .loop-test .taken) (k .inv .3) _ _ _ (lined .line-of .ensures) (c .before .after .ensures .0) (c .line-length .ensures),
-      k .inv .4
-          ∙ stored-further (a .text .now) _ (k .at) (length (a .image .now)) (k .reading) (rested .rest .ensures) (rested .before .loop-test .taken) (k .inv .3) _ _ _ (lined .line-of .ensures) (c .before .after .ensures .0) (c .line-length .ensures) (k .image) _ (called .store-line .ensures),
+      f .passes,
+      k .inv .4 ∙ f .stores (k .image) _ (called .store-line .ensures),
     )
 
 returns : tie.Need-returns Inv-loop μ-loop
@@ -151,8 +140,8 @@ store-text-spec =
     store-line-requires
     after-requires
     line-length-requires
-    (λ c. omega (arith, placed c .inside))
-    (λ c. omega (arith, placed c .inside, placed c .more))
+    (λ c. omega (arith, further-at c .inside))
+    (λ c. omega (arith, further-at c .inside, further-at c .more))
     loop-again
     (λ c. search needs)
     returns)
