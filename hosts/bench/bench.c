@@ -34,10 +34,10 @@ static void need(int ok, const char *what)
 
 /* ---- the implementations */
 
-uint8_t key[32], nonce[12], aad[4124], text[4096], sealed[4096], opened[4096], tag[16];
+uint8_t key[32], nonce[12], aad[4128], text[4096], sealed[4096], opened[4096], tag[16];
 
 static const struct size sizes[] = {
-    {"64", 64, 0}, {"1,024", 1024, 0}, {"4,096", 4096, 0}, {"4,096 + 1,052", 4096, 1052}, {"4,096 + 4,124", 4096, 4124},
+    {"64", 64, 0}, {"1,024", 1024, 0}, {"4,096", 4096, 0}, {"4,096 + 1,056", 4096, 1056}, {"4,096 + 4,128", 4096, 4128},
 };
 
 enum { TARGET_SIZE = 3 };
@@ -337,11 +337,11 @@ static void compare_hex(void)
 
 /* ---- a unit, whose ring's newest page is full, and its calls */
 
-static uint8_t ring[16 * 32 * 512], kept_ring[sizeof ring], fram[88 + 4 * 4096], kept_fram[sizeof fram];
+static uint8_t ring[16 * 32 * 512], kept_ring[sizeof ring], fram[96 + 4 * 4096], kept_fram[sizeof fram];
 static uint8_t staging[sizeof fram / 2], state[KEEPER_STATE_SIZE], job[KEEPER_JOB_SIZE], fresh[12];
 static uint8_t session[KEEPER_SESSION_SIZE], kept_session[sizeof session];
 static size_t pages, slots, ring_len, fram_len, part, secret_len, open_start, open_len;
-static uint32_t restarts;
+static uint32_t restarts, heard;
 
 static void next_nonce(void)
 {
@@ -352,15 +352,15 @@ static void next_nonce(void)
 static uint32_t first_save(void)
 {
     next_nonce();
-    return keeper_first_save(pages, slots, ring, ring_len, fram, fram_len, key, 32, fresh, 12, tag, 16, aad, part, text, part, staging,
-                             fram_len / 2, job, sizeof job);
+    return keeper_first_save(pages, slots, ring, ring_len, fram, fram_len, key, 32, fresh, 12, tag, 16, ++heard, aad, part, text, part,
+                             staging, fram_len / 2, job, sizeof job);
 }
 
 static uint32_t save(void)
 {
     next_nonce();
-    return keeper_save(pages, slots, ring, ring_len, fram, fram_len, key, 32, fresh, 12, session, sizeof session, aad, part, text, part,
-                       staging, fram_len / 2, job, sizeof job);
+    return keeper_save(pages, slots, ring, ring_len, fram, fram_len, key, 32, fresh, 12, session, sizeof session, ++heard, aad, part, text,
+                       part, staging, fram_len / 2, job, sizeof job);
 }
 
 static uint32_t power_up(void)
@@ -396,7 +396,7 @@ static void blank(size_t p, size_t s, size_t n)
 {
     pages = p, slots = s, part = n;
     ring_len = 16 * p * s;
-    fram_len = 88 + 4 * n;
+    fram_len = 96 + 4 * n;
     memset(ring, 0xff, sizeof ring);
     memset(fram, 0, sizeof fram);
 }
@@ -833,7 +833,7 @@ static struct {
 
 static size_t linked_count;
 
-/* A line of SIZES is a name, bytes of code and bytes of constants; the first is that of the whole keeper. */
+/* A line of SIZES is a name, bytes of code and bytes of constants; the first is that of the unit's calls, the second that of every call. */
 static void read_sizes(const char *path)
 {
     FILE *f = fopen(path, "r");
@@ -841,7 +841,7 @@ static void read_sizes(const char *path)
     while (linked_count < COUNT(linked) && fscanf(f, " %79[^|]|%ld|%ld", linked[linked_count].name, &linked[linked_count].code,
                                                  &linked[linked_count].constants) == 3)
         linked_count++;
-    need(linked_count > 0 && fscanf(f, " %*c") == EOF, path);
+    need(linked_count > 1 && fscanf(f, " %*c") == EOF, path);
     fclose(f);
 }
 
@@ -849,7 +849,7 @@ static void print_sizes(void)
 {
     out("\n## Code\n\n"
         "Bytes for x86-64, linked with `--gc-sections`. The C library's functions are not counted. mbedTLS is left out: its GCM refers to\n"
-        "its table of all ciphers, so that Debian's archive links far more than GCM needs.\n\n"
+        "its table of all ciphers, so that Debian's archive links far more than GCM needs. What two rows share is counted in both.\n\n"
         "| | code | constants |\n");
     columns(2);
     for (size_t i = 0; i < linked_count; i++)
@@ -880,16 +880,17 @@ static int no_heap(const char *symbols)
 
 static void print_targets(const char *symbols)
 {
-    long whole = linked[0].code + linked[0].constants;
+    long units = linked[0].code + linked[0].constants, whole = linked[1].code + linked[1].constants;
     out("\n## Targets\n\nA target of time is met if the best and the median meet it.\n\n| target | measured | |\n|---|---|---|\n");
-    print_ratio("sealing 4,096 + 1,052 bytes: at most 0.50 of the time of BearSSL ct64 + ctmul64, Debian's build", CT64, 0.5);
-    print_ratio("sealing 4,096 + 1,052 bytes: less than the time of BearSSL big + ctmul32, Debian's build", BIG32, 1);
+    print_ratio("sealing 4,096 + 1,056 bytes: at most 0.50 of the time of BearSSL ct64 + ctmul64, Debian's build", CT64, 0.5);
+    print_ratio("sealing 4,096 + 1,056 bytes: less than the time of BearSSL big + ctmul32, Debian's build", BIG32, 1);
 #ifdef FAST
     print_ratio("beyond the targets: the first, with BearSSL compiled with -O3", FAST_CT64, 0.5);
     print_ratio("beyond the targets: the second, with BearSSL compiled with -O3", FAST_BIG32, 1);
 #endif
-    out("| code and constants of the whole keeper: under 24 KiB (24,576 bytes) | %ld | %s |\n", whole,
-        whole < 24576 ? "met" : "**not met**");
+    out("| code and constants of the unit's own calls, all but Intel HEX's two, which are for the bench: under 24 KiB (24,576 bytes) | %ld; "
+        "with Intel HEX's %ld | %s |\n",
+        units, whole, units < 24576 ? "met" : "**not met**");
     out("| no heap | the archive's only undefined symbols: %s | %s |\n", symbols, no_heap(symbols) ? "met" : "**not met**");
 }
 
@@ -953,7 +954,7 @@ int main(int argc, char **argv)
         "which all take turns on one core, each for a millisecond, after a few calls to warm up; a turn in which another process got the\n"
         "core is taken again. In each round, before the clock starts, all must give the same bytes, open them, and refuse them with one bit\n"
         "of the tag changed.\n\n"
-        "1,052 bytes of associated data are the head and an open part of 1,024 bytes; 4,124 are those of the largest checkpoint.\n\n"
+        "1,056 bytes of associated data are the head and an open part of 1,024 bytes; 4,128 are those of the largest checkpoint.\n\n"
         "What is not alike:\n\n"
         "- **Tables and time.** Godwitshelf, BearSSL small and big, and mbedTLS with its hardware masked look up AES tables at places that\n"
         "  depend on key and data. BearSSL ct64 does not, by design, and pays for it.\n"

@@ -58,9 +58,11 @@ linked() {
     ld -static --gc-sections --unresolved-symbols=ignore-all -e "$1" $roots -o $work/linked $archive
     size -A $work/linked | awk -v name="$name" '/^\.text/ { t += $2 } /^\.rodata|^\.data\.rel\.ro/ { r += $2 } END { print name "|" t "|" r + 0 }'
 }
+calls=$(nm -g --defined-only $keeper | awk '$2 == "T" { print $3 }')
 bear="br_gcm_init br_gcm_reset br_gcm_aad_inject br_gcm_flip br_gcm_run br_gcm_get_tag br_gcm_check_tag"
 {
-    linked "Godwitshelf, every call" $keeper $(nm -g --defined-only $keeper | awk '$2 == "T" { print $3 }')
+    linked "Godwitshelf, the unit's calls: every call but Intel HEX's" $keeper $(echo "$calls" | grep -v '^keeper_hex_')
+    linked "Godwitshelf, every call" $keeper $calls
     linked "Godwitshelf, sealing and opening" $keeper keeper_seal keeper_open
     linked "Godwitshelf, Intel HEX" $keeper keeper_hex_export keeper_hex_import
     linked "BearSSL small + ctmul32, sealing and opening" $lib/libbearssl.a $bear br_aes_small_ctr_init br_ghash_ctmul32

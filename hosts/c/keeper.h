@@ -29,10 +29,18 @@
  * The power may fail between two stores and in any of them. A word or page cut into may hold any bytes. A record must be whole or not there:
  * program its 16 bytes as one.
  * Every pages x slots saves and power-ups erase each page once.
+ * A checkpoint is 48 bytes and both parts, so that a FRAM of 88 bytes holds none. Checkpoints of the older form, of 44 bytes and both parts
+ * and without a packet number, are still read; a power-up seals them anew in the longer form.
+ *
+ * Restarts and packet numbers
+ * A power-up's checkpoint has one restart more than the one it resumes; at 8 the next power-up stops. A save brings the number of the packet
+ * last heard. Above the number stored before it sets restarts to 0; otherwise restarts carry over, so that a unit which hears only repeats
+ * stops all the same.
  *
  * The answers
  * keeper_wipe answers nothing; keeper_advance answers 256 and up or a stop; every other call answers 0 or a stop. A stop changes nothing in
- * the caller's memory. The lowest number that applies is given; of a text, the lowest that applies to its first bad line.
+ * the caller's memory. The lowest number that applies is given, but 18 right after 4, and a power-up's 4 for a checkpoint that does not fit
+ * its half in the longer form after 13; of a text, the lowest that applies to its first bad line.
  *
  * Not proved: time (the costs below are those of the source; AES looks up tables at places that depend on key and data), and what is left
  * on the stack.
@@ -53,24 +61,27 @@ enum keeper_answer {
     KEEPER_FRAM_SIZE = 2,           /* the length of the FRAM, or of an image to export or import, wrong */
     KEEPER_KEY_NONCE_TAG_SIZE = 3,  /* key not 32, nonce not 12 or tag not 16 bytes */
     KEEPER_BUFFER_SIZE = 4,         /* a part not a multiple of 4 bytes, above 4,096, or the checkpoint longer than a half; staging, state,
-                                       output or a text buffer too short; a session buffer to be written not 40 bytes; text or associated data
-                                       above 65,536 */
+                                       output or a text buffer too short; a session buffer to be written not 48 bytes; text or associated data
+                                       above 65,536; power-up, after 13: a checkpoint of the older form does not fit its half in the
+                                       longer one */
     KEEPER_RING_IN_USE = 5,         /* first save: the ring is not blank */
     KEEPER_RING_BLANK = 6,          /* the ring is wholly blank: a new unit, or an erased flash */
     KEEPER_RING_UNREADABLE = 7,     /* the ring is not readable */
-    KEEPER_STALE_SESSION = 8,       /* the session's page, slot or record is not the newest, or its buffer is not 40 bytes: finish the job that
-                                       is under way, or power up */
+    KEEPER_STALE_SESSION = 8,       /* the session's page, slot or record is not the newest, its restarts are above 8 or its packet number
+                                       above KEEPER_LARGEST_PACKET, or its buffer is not 48 bytes: finish the job that is under way, or
+                                       power up */
     KEEPER_PAGE_PENDING = 9,        /* save: a page awaits erasing; power up */
     KEEPER_NONCE_USED = 10,         /* the nonce equals one in a record of the newest page: call again with a new one */
     KEEPER_BAD_HEAD = 11,           /* a word of the newest checkpoint's head is wrong, or the checkpoint is longer than the half */
     KEEPER_TAG_DIFFERS = 12,        /* the tag of the newest checkpoint, or the one given to keeper_open, differs: other bytes, key or nonce */
-    KEEPER_RESTART_LIMIT = 13,      /* 8 restarts with no save between */
+    KEEPER_RESTART_LIMIT = 13,      /* 8 restarts, and no save between that brought a newer packet number */
     KEEPER_BAD_JOB = 14,            /* the job is done; its length, half, page, slot or word is out of its range; at a record the target is not
-                                       blank; or the job buffer is not 56 bytes or has an unknown phase or origin. An old copy of a job, or
+                                       blank; or the job buffer is not 64 bytes or has an unknown phase or origin. An old copy of a job, or
                                        one of another unit, is not found out by this. */
     KEEPER_BAD_LINE = 15,           /* import: a malformed line, another type than 00, 01 and 04, a line after the end line, or no end line */
     KEEPER_BAD_CHECKSUM = 16,       /* import: a line's checksum is wrong */
     KEEPER_DATA_MISPLACED = 17,     /* import: data outside the image, past a 64 KiB boundary within a line, or not above the data before */
+    KEEPER_PACKET_TOO_LARGE = 18,   /* saves: the packet number is above KEEPER_LARGEST_PACKET; tried right after 4 */
 
     KEEPER_GOING_ON = 256,          /* keeper_advance: more stores to come */
     KEEPER_SAVED = 257,             /* keeper_advance: done; a save's checkpoint is the newest */
@@ -83,16 +94,24 @@ enum keeper_size {
     KEEPER_TAG_SIZE = 16,
     KEEPER_SLOT_SIZE = 16,
     KEEPER_STATE_SIZE = 4096,       /* the least state buffer */
-    KEEPER_JOB_SIZE = 56,
-    KEEPER_SESSION_SIZE = 40
+    KEEPER_JOB_SIZE = 64,
+    KEEPER_SESSION_SIZE = 48
 };
 
-/* A job: 56 bytes. Numbers are words of 4 bytes, the most significant first.
- *    0  phase: 1 erase first, 2 words, 3 record, 4 erase after, 5 done      16  length of the checkpoint in bytes
- *    4  the phase's page or word number, 0 where it has none                20  target page
- *    8  1 save, 2 power-up                                                  24  target slot
- *   12  half: 0 A, 1 B                                                      28  nonce, 12 bytes; 40 the checkpoint's tag, 16 bytes
- * A session: 40 bytes.  0 page   4 slot   8 newest record, 16 bytes   24 its checkpoint's tag, 16 bytes
+/* The largest packet number: 2^30 - 1. */
+#define KEEPER_LARGEST_PACKET UINT32_C(0x3FFFFFFF)
+
+/* A job: 64 bytes. Numbers are words of 4 bytes, the most significant first.
+ *    0  phase: 1 erase first, 2 words, 3 record, 4 erase after, 5 done      24  target slot
+ *    4  the phase's page or word number, 0 where it has none                28  nonce, 12 bytes
+ *    8  1 save, 2 power-up                                                  40  the checkpoint's tag, 16 bytes
+ *   12  half: 0 A, 1 B                                                      56  the checkpoint's restarts
+ *   16  length of the checkpoint in bytes                                   60  the checkpoint's packet number
+ *   20  target page
+ * A session: 48 bytes, of the newest record and its checkpoint.
+ *    0  page                                                                24  the checkpoint's tag, 16 bytes
+ *    4  slot                                                                40  its restarts
+ *    8  the record, 16 bytes                                                44  its packet number
  */
 
 /* Sealing: AES-256-GCM with a nonce of 12 bytes and a tag of 16. Text and associated data are 0 to 65,536 bytes each. Writes text_len bytes
@@ -112,32 +131,36 @@ uint32_t keeper_open(const uint8_t *key, size_t key_len, const uint8_t *nonce, s
 
 /* The unit's first checkpoint, on a blank ring: seals both parts into staging, with restarts 0 and `starting_tag`, 16 random bytes, as the
  * previous tag, and writes the job that stores it. Nothing is recorded until keeper_advance has made the record.
- * Parts: multiples of 4 bytes, 0 to 4,096 each; 44 bytes and both parts must fit half the FRAM. Staging: at least half the FRAM; its bytes
+ * `packet` is the number of the packet last heard, 0 to KEEPER_LARGEST_PACKET; 0 where none was.
+ * Parts: multiples of 4 bytes, 0 to 4,096 each; 48 bytes and both parts must fit half the FRAM. Staging: at least half the FRAM; its bytes
  * after the checkpoint keep their contents.
- * Stops: 1 to 5, 14 (the job buffer is not 56 bytes). Cost: one pass over the ring, one sealing.
+ * Stops: 1 to 4, 18, 5, 14 (the job buffer is not 64 bytes). Cost: one pass over the ring, one sealing.
  */
 uint32_t keeper_first_save(size_t pages, size_t slots, const uint8_t *ring, size_t ring_len,
                      const uint8_t *fram, size_t fram_len, const uint8_t *key, size_t key_len,
                      const uint8_t *nonce, size_t nonce_len, const uint8_t *starting_tag, size_t starting_tag_len,
-                     const uint8_t *open_part, size_t open_len, const uint8_t *secret, size_t secret_len,
+                     uint32_t packet, const uint8_t *open_part, size_t open_len, const uint8_t *secret, size_t secret_len,
                      uint8_t *staging, size_t staging_len, uint8_t *job, size_t job_len);
 
-/* The next checkpoint, with restarts 0 and the session's tag as the previous one. `session` is the one that the last finished job left; its
- * tag is taken as it is. Parts and buffers as for keeper_first_save.
- * Stops: 1 to 4, 6 to 10, 14 (the job buffer is not 56 bytes). Cost: one reading of the ring, one sealing.
+/* The next checkpoint, with the session's tag as the previous one. `session` is the one that the last finished job left; its tag, restarts
+ * and packet number are taken as they are. If `packet`, the number of the packet last heard, is above the session's, it is stored with
+ * restarts 0; otherwise the session's number is, with the session's restarts. Parts and buffers as for keeper_first_save.
+ * Stops: 1 to 4, 18, 6 to 10, 14 (the job buffer is not 64 bytes). Cost: one reading of the ring, one sealing.
  */
 uint32_t keeper_save(size_t pages, size_t slots, const uint8_t *ring, size_t ring_len,
                      const uint8_t *fram, size_t fram_len, const uint8_t *key, size_t key_len,
                      const uint8_t *nonce, size_t nonce_len, const uint8_t *session, size_t session_len,
-                     const uint8_t *open_part, size_t open_len, const uint8_t *secret, size_t secret_len,
+                     uint32_t packet, const uint8_t *open_part, size_t open_len, const uint8_t *secret, size_t secret_len,
                      uint8_t *staging, size_t staging_len, uint8_t *job, size_t job_len);
 
 /* After every restart: opens the newest checkpoint, puts its secret part at the front of `state` (at least 4,096 bytes; those after it keep
- * their contents) and its length into *secret_len, seals both parts anew, with one restart more, into staging, and writes the job that stores
- * it. `state` then holds plaintext; it may be used once keeper_advance has answered KEEPER_RESTORED, and is the caller's to wipe.
- * On 6 make a first save; on 10 call again with a new nonce; on any other stop sound the alert. After 7, 11, 12 and 13 only erasing the
- * whole ring and a first save go on, and the state is lost.
- * Stops: 1 to 4, 6, 7, 10 to 14 (14: the job buffer is not 56 bytes). Cost: one reading of the ring; the checkpoint is hashed once,
+ * their contents) and its length into *secret_len, seals both parts anew, with one restart more and the same packet number, into staging, and
+ * writes the job that stores it. `state` then holds plaintext; it may be used once keeper_advance has answered KEEPER_RESTORED, and is the
+ * caller's to wipe. A checkpoint of the older form has packet number 0 and is sealed anew in the longer form, 4 bytes longer; where that does
+ * not fit the half, the power-up gives 4 after 13.
+ * On 6 make a first save; on 10 call again with a new nonce; on any other stop sound the alert. After 7, 11, 12, 13 and that 4 only erasing
+ * the whole ring and a first save go on, and the state is lost.
+ * Stops: 1 to 4, 6, 7, 10 to 13, 4 again, 14 (the job buffer is not 64 bytes). Cost: one reading of the ring; the checkpoint is hashed once,
  * decrypted once and sealed once.
  */
 uint32_t keeper_power_up(size_t pages, size_t slots, const uint8_t *ring, size_t ring_len,

@@ -1,6 +1,6 @@
 /* A firmware's main loop over the keeper: power up or save for the first time, make one store each turn, save when the state has changed,
  * and sound the alert on a stop. The board is simulated: its chips outlive a restart, its RAM does not, and the supply fails after a number
- * of turns that main() chooses.
+ * of turns that main() chooses. The radio hears packets, newer ones or repeats of the last.
  */
 #include <stdbool.h>
 #include <stdio.h>
@@ -20,7 +20,7 @@ enum {
     SLOTS = 2,
     PAGE = SLOTS * KEEPER_SLOT_SIZE,
     HALF = 64,
-    CHECKPOINT = 44 + sizeof(struct state),
+    CHECKPOINT = 48 + sizeof(struct state),
     STORES = CHECKPOINT / 4 + 1 /* its words and the record, where nothing is to be erased */
 };
 _Static_assert(CHECKPOINT <= HALF, "the checkpoint fits a half");
@@ -34,11 +34,18 @@ static struct {
     uint32_t drawn;
 } chips;
 
+/* What the nursery unit sends: the number of its last packet, and whether it sends that one again or a newer one. */
+static struct {
+    uint32_t packet;
+    bool repeats;
+} air;
+
 /* What a restart loses. */
 static struct {
     uint8_t ring[PAGES * PAGE]; /* images of the chips */
     uint8_t fram[2 * HALF];
     struct state state;
+    uint32_t heard; /* the number of the packet last heard, 0 where none was since the restart */
     bool usable;  /* until then radio and sound must not look at the state */
     bool changed; /* since the last save began */
     bool storing; /* a job is under way */
@@ -104,7 +111,7 @@ static uint32_t begin(void) {
         fresh_bytes(nonce, sizeof nonce);
         fresh_bytes(starting_tag, sizeof starting_tag);
         r = keeper_first_save(PAGES, SLOTS, ram.ring, sizeof ram.ring, ram.fram, sizeof ram.fram, key, sizeof key, nonce, sizeof nonce,
-                              starting_tag, sizeof starting_tag, ram.state.volume, sizeof ram.state.volume, ram.state.timer,
+                              starting_tag, sizeof starting_tag, ram.heard, ram.state.volume, sizeof ram.state.volume, ram.state.timer,
                               sizeof ram.state.timer, ram.staging, sizeof ram.staging, ram.job, sizeof ram.job);
         ram.usable = r == KEEPER_DONE;
     }
@@ -120,7 +127,7 @@ static uint32_t save(void) {
     do {
         fresh_bytes(nonce, sizeof nonce);
         r = keeper_save(PAGES, SLOTS, ram.ring, sizeof ram.ring, ram.fram, sizeof ram.fram, key, sizeof key, nonce, sizeof nonce,
-                        ram.session, sizeof ram.session, ram.state.volume, sizeof ram.state.volume, ram.state.timer,
+                        ram.session, sizeof ram.session, ram.heard, ram.state.volume, sizeof ram.state.volume, ram.state.timer,
                         sizeof ram.state.timer, ram.staging, sizeof ram.staging, ram.job, sizeof ram.job);
     } while (r == KEEPER_NONCE_USED);
     keeper_wipe(key, sizeof key);
@@ -160,7 +167,7 @@ static uint32_t store(void) {
     if (r < KEEPER_GOING_ON) return r;
     make_durable(before);
     ram.storing = r == KEEPER_GOING_ON;
-    if (r == KEEPER_SAVED) puts("  saved");
+    if (r == KEEPER_SAVED) printf("  saved after packet %d\n", (int)ram.heard);
     if (r == KEEPER_RESTORED) return resume();
     return KEEPER_DONE;
 }
@@ -174,18 +181,26 @@ static uint32_t alert(uint32_t stop) {
     return stop;
 }
 
-/* A restart and its turns until the supply fails. In each of the first `changes` turns in which nothing is being stored the knob is moved. */
-static uint32_t run(int turns, int changes) {
+/* Hears a packet, and has the knob moved: the state is to be saved. Whether that counts as progress is the keeper's to say. */
+static void hear(void) {
+    if (!air.repeats) air.packet++;
+    ram.heard = air.packet;
+    ram.state.volume[3]++;
+    ram.state.timer[3]++;
+    ram.changed = true;
+}
+
+/* A restart and its turns until the supply fails. In each of the first `packets` turns in which nothing is being stored one is heard. */
+static uint32_t run(int turns, int packets) {
     memset(&ram, 0xA5, sizeof ram); /* what RAM holds after a restart means nothing */
     ram.usable = ram.changed = ram.storing = false;
+    ram.heard = 0;
     uint32_t r = begin();
     if (r != KEEPER_DONE) return alert(r);
     for (int turn = 0; turn < turns; turn++) {
-        if (ram.usable && !ram.storing && changes > 0) {
-            changes--;
-            ram.state.volume[3]++;
-            ram.state.timer[3]++;
-            ram.changed = true;
+        if (ram.usable && !ram.storing && packets > 0) {
+            packets--;
+            hear();
         }
         if (ram.storing)
             r = store();
@@ -206,9 +221,14 @@ int main(void) {
     if (run(STORES + 1 + 5, 1) != KEEPER_DONE) return 1;
     puts("a restart: the save before is resumed; and a save");
     if (run(100, 1) != KEEPER_DONE) return 1;
-    for (int restart = 1; restart <= 8; restart++) {
+    for (int restart = 1; restart <= 4; restart++) {
         printf("restart %d with no save between\n", restart);
         if (run(2 * STORES, 0) != KEEPER_DONE) return 1;
+    }
+    air.repeats = true;
+    for (int restart = 5; restart <= 8; restart++) {
+        printf("restart %d, and a save after a repeated packet\n", restart);
+        if (run(100, 1) != KEEPER_DONE) return 1;
     }
     puts("restart 9");
     return run(2 * STORES, 0) == KEEPER_RESTART_LIMIT ? 0 : 1;

@@ -1,14 +1,22 @@
 /*
- * The sealed checkpoints that crates/checkpoint_values prints, made by OpenSSL's AES-256-GCM from document 01's layout alone.
+ * The sealed checkpoints that crates/checkpoint_values prints and reads, made by OpenSSL's AES-256-GCM from the layouts of documents 01 and
+ * 02 alone.
  *
- *     cc -o checkpoints checkpoints.c -lcrypto && ./checkpoints
+ *     cc -o checkpoints checkpoints.c -lcrypto
+ *     ./checkpoints         document 02's form, as text: the first part of the file crates/checkpoint_values/stdout; what comes behind it
+ *                           is the stops of documents 01 and 02, written by hand
+ *     ./checkpoints older   a checkpoint of document 01's form, as bytes: the file crates/checkpoint_values/stdin
  *
- * (Debian: libssl-dev). The output is the first part of the file crates/checkpoint_values/stdout; what comes behind it is document 01's stops, written by hand.
+ * (Debian: libssl-dev).
  */
 #include <openssl/evp.h>
 #include <stdio.h>
 #include <stdlib.h>
 #include <string.h>
+
+enum form { OLDER, LONGER };
+
+static unsigned char c[48 + 2 * 4096];
 
 static void need(int ok)
 {
@@ -25,47 +33,61 @@ static void word(unsigned char *at, unsigned kind, unsigned value)
         at[i] = w >> (24 - 8 * i);
 }
 
-static void checkpoint(int half, int open, int secret, unsigned restarts)
+/* Seals a checkpoint into c and answers its length. The older form has no packet number. */
+static int seal(enum form form, unsigned packet, int open, int secret, unsigned restarts)
 {
-    static unsigned char c[44 + 2 * 4096], plain[4096];
+    static unsigned char plain[4096];
     unsigned char key[32], nonce[12];
-    int n;
+    int at = form == LONGER ? 4 : 0, start = at + 28, n;
     for (int i = 0; i < 32; i++)
         key[i] = i;
     for (int i = 0; i < 12; i++)
         nonce[i] = 16 * restarts + i;
-    word(c, 1, open / 4);
-    word(c + 4, 2, secret / 4);
-    word(c + 8, 3, restarts);
+    if (form == LONGER)
+        word(c, 0, packet);
+    word(c + at, 1, open / 4);
+    word(c + at + 4, 2, secret / 4);
+    word(c + at + 8, 3, restarts);
     for (int i = 0; i < 16; i++)
-        c[12 + i] = 0xa0 + i;
+        c[at + 12 + i] = 0xa0 + i;
     for (int i = 0; i < open; i++)
-        c[28 + i] = 7 * i + 1;
+        c[start + i] = 7 * i + 1;
     for (int i = 0; i < secret; i++)
         plain[i] = 5 * i + 3;
     EVP_CIPHER_CTX *x = EVP_CIPHER_CTX_new();
     need(x != NULL);
     need(EVP_EncryptInit_ex(x, EVP_aes_256_gcm(), NULL, key, nonce));
-    need(EVP_EncryptUpdate(x, NULL, &n, c, 28 + open));
-    need(EVP_EncryptUpdate(x, c + 28 + open, &n, plain, secret) && n == secret);
-    need(EVP_EncryptFinal_ex(x, c + 28 + open + secret, &n) && n == 0);
-    need(EVP_CIPHER_CTX_ctrl(x, EVP_CTRL_GCM_GET_TAG, 16, c + 28 + open + secret));
+    need(EVP_EncryptUpdate(x, NULL, &n, c, start + open));
+    need(EVP_EncryptUpdate(x, c + start + open, &n, plain, secret) && n == secret);
+    need(EVP_EncryptFinal_ex(x, c + start + open + secret, &n) && n == 0);
+    need(EVP_CIPHER_CTX_ctrl(x, EVP_CTRL_GCM_GET_TAG, 16, c + start + open + secret));
     EVP_CIPHER_CTX_free(x);
-    printf("half %c open %d secret %d restarts %u\n", "AB"[half], open, secret, restarts);
-    for (int i = 0; i < 44 + open + secret; i++)
+    return start + open + secret + 16;
+}
+
+static void show(int half, unsigned packet, int open, int secret, unsigned restarts)
+{
+    int n = seal(LONGER, packet, open, secret, restarts);
+    printf("half %c packet %u open %d secret %d restarts %u\n", "AB"[half], packet, open, secret, restarts);
+    for (int i = 0; i < n; i++)
         printf("%02x", c[i]);
     putchar('\n');
 }
 
-int main(void)
+int main(int argc, char **argv)
 {
-    checkpoint(0, 0, 0, 0);
-    checkpoint(1, 0, 0, 8);
-    checkpoint(0, 4, 0, 1);
-    checkpoint(1, 0, 4, 2);
-    checkpoint(0, 8, 4, 3);
-    checkpoint(1, 20, 36, 4);
-    checkpoint(0, 4096, 4096, 5);
-    checkpoint(1, 4096, 4096, 6);
+    if (argc == 2 && strcmp(argv[1], "older") == 0) {
+        int n = seal(OLDER, 0, 8, 4, 3);
+        fwrite(c, 1, n, stdout);
+        return 0;
+    }
+    show(0, 0, 0, 0, 0);
+    show(1, 1, 0, 0, 8);
+    show(0, 256, 4, 0, 1);
+    show(1, 65536, 0, 4, 2);
+    show(0, 5, 8, 4, 3);
+    show(1, 1073741823, 20, 36, 4);
+    show(0, 16777216, 4096, 4096, 5);
+    show(1, 305419896, 4096, 4096, 6);
     return 0;
 }

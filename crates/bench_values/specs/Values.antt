@@ -1,15 +1,19 @@
--- Document 01's bench values M1 to M13 (its section "Bench values"), as one statement over one list: what the definitions give, beside what document 01 says.
+-- Document 01's bench values M1 to M13 (its section "Bench values"), as one statement over one list: what the definitions give, beside what document 01 says;
+-- M13 for both forms of a head, document 01's and document 02's (A.2); and the bounds of A.2.
 use Prim.Native.Nat.{ℕ, _/_}
 use mathlib.Core.Path.{_≡_}
 use mathlib.Core.Bool.{Bool, true, false}
-use mathlib.Core.Option.{none}
+use mathlib.Core.Option.{Option, none, some}
 use mathlib.Core.List.{List, [], _∷_, _++_, map}
 use lib.ListN.{length, replicate}
 use Rattle.octets.specs.Limits.{slot-length, key-length, nonce-length, tag-length}
 use Rattle.octets.specs.Octets.{erased}
 use Rattle.sbox.specs.Field.{xtime, sub-byte}
 use Rattle.ring.specs.Ring.{Newest, Blank, Unreadable, At, AtPending, is-record, half-named, read-ring, target-page, target-slot}
-use Rattle.checkpoint.specs.Checkpoint.{Checkpoint, sealed}
+use Rattle.checkpoint.specs.Checkpoint.{Form, Older, Longer, Checkpoint, sealed}
+use Rattle.protocol.specs.Types.{Session}
+use Rattle.protocol.specs.Calls.{sizes}
+use Rattle.protocol.specs.Operations.{session-wrong, save-restarts, larger, first-save-stop}
 use Rattle.protocol.specs.Journal.{Journal, stores-of}
 
 -- ---- rings of 3 pages with 2 slots
@@ -70,8 +74,8 @@ M11 = ring in-half-B no-record no-record no-record no-record no-record
 
 -- ---- a checkpoint with an open part of 8 bytes and a secret part of 4, and journals before its start
 
-abbrev pub M13 : Checkpoint
-M13 = record { open-part = replicate 8 0; secret = replicate 4 0; restarts = 0; previous = replicate tag-length 0; nonce = replicate nonce-length 0 }
+abbrev pub M13 : Form → Checkpoint
+M13 form = record { form = form; packet = 0; open-part = replicate 8 0; secret = replicate 4 0; restarts = 0; previous = replicate tag-length 0; nonce = replicate nonce-length 0 }
 
 abbrev pub key : List ℕ
 key = replicate key-length 0
@@ -89,6 +93,9 @@ pub data Value : Type 0 where
   byte : ℕ → Value
   lengths : (bytes words : ℕ) → Value
   stores : ℕ → Value
+  stops : Option ℕ → Value
+  wrong : Bool → Value
+  numbers : (restarts packet : ℕ) → Value
 
 abbrev read : List ℕ → Value
 read r = reads (read-ring r 3 2)
@@ -97,10 +104,37 @@ read r = reads (read-ring r 3 2)
 abbrev next : List ℕ → Value
 next r = target (target-page 3 2 (read-ring r 3 2)) (target-slot 2 (read-ring r 3 2))
 
-abbrev stores-after : Journal → Value
-stores-after j = stores (length (stores-of key 2 j M13))
+abbrev stores-after : Form → Journal → Value
+stores-after form j = stores (length (stores-of key 2 j (M13 form)))
 
--- what the definitions give, and what document 01 says
+-- ---- the bounds of document 02, A.2
+
+-- a first save with empty parts, a blank ring and a FRAM of n bytes, which has heard a packet
+abbrev starts : ℕ → ℕ → Value
+starts n packet = stops (first-save-stop Longer M1 (replicate n 0) (record {
+  arguments = record {
+    sizes = sizes 3 2;
+    key = key;
+    nonce = replicate nonce-length 0;
+    packet = packet;
+    open-part = [];
+    secret = [];
+    staging = replicate n 0;
+  };
+  starting-tag = replicate tag-length 0;
+}))
+
+-- a session of these restarts and this packet number, and a save with it that has heard a packet
+abbrev session : (restarts packet : ℕ) → Session
+session restarts packet = record { page = 0; slot = 0; latest = R; tag = replicate tag-length 0; restarts = restarts; packet = packet }
+
+abbrev out-of-range : (restarts packet : ℕ) → Value
+out-of-range restarts packet = wrong (session-wrong Longer (session restarts packet))
+
+abbrev saves : (heard restarts packet : ℕ) → Value
+saves heard restarts packet = numbers (save-restarts Longer heard packet restarts) (larger packet heard)
+
+-- what the definitions give, and what the papers say
 abbrev pub table : List (Value × Value)
 table =
     (read M1, reads Blank) ∷
@@ -121,10 +155,25 @@ table =
     (byte (sub-byte 0x53), byte 0xED) ∷
     (byte (xtime 0x57), byte 0xAE) ∷
     (byte (xtime 0xAE), byte 0x47) ∷
-    (lengths (length (sealed key M13)) (length (sealed key M13) / 4), lengths 56 14) ∷
-    (stores-after (journal 0 false), stores 15) ∷
-    (stores-after (journal 2 false), stores 16) ∷
-    (stores-after (journal 3 true), stores 16) ∷ []
+    (lengths (length (sealed key (M13 Older))) (length (sealed key (M13 Older)) / 4), lengths 56 14) ∷
+    (stores-after Older (journal 0 false), stores 15) ∷
+    (stores-after Older (journal 2 false), stores 16) ∷
+    (stores-after Older (journal 3 true), stores 16) ∷
+    (lengths (length (sealed key (M13 Longer))) (length (sealed key (M13 Longer)) / 4), lengths 60 15) ∷
+    (stores-after Longer (journal 0 false), stores 16) ∷
+    (stores-after Longer (journal 2 false), stores 17) ∷
+    (stores-after Longer (journal 3 true), stores 17) ∷
+    (starts 88 0, stops (some 4)) ∷
+    (starts 96 0, stops none) ∷
+    (starts 96 1073741823, stops none) ∷
+    (starts 96 1073741824, stops (some 18)) ∷
+    (starts 88 1073741824, stops (some 4)) ∷
+    (out-of-range 8 1073741823, wrong false) ∷
+    (out-of-range 9 0, wrong true) ∷
+    (out-of-range 0 1073741824, wrong true) ∷
+    (saves 6 5 7, numbers 5 7) ∷
+    (saves 7 5 7, numbers 5 7) ∷
+    (saves 8 5 7, numbers 0 8) ∷ []
 
 unfoldable pub Values : Type 0
 Values = map (λ v. v .0) table ≡ map (λ v. v .1) table

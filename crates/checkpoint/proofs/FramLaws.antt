@@ -11,7 +11,7 @@ use Rattle.octets.specs.Limits.{fram-least, fram-limit, fram-step}
 use Rattle.octets.specs.Octets.{part}
 use Rattle.octets.proofs.Laws.{length-part, part-part, Written, written-front}
 use Rattle.stops.proofs.Laws.{neither}
-use Rattle.checkpoint.specs.Checkpoint.{empty-length}
+use Rattle.checkpoint.specs.Checkpoint.{Older, empty-length}
 use Rattle.checkpoint.specs.Fram.{fram-wrong, half-length, half-at}
 
 pub record FramSizes (size : ℕ) : Type 0 where
@@ -55,8 +55,8 @@ pub half-begins : (fram ys : List ℕ) (h : ℕ) → fram-wrong fram ≡ false �
 unfolding half-at
 half-begins fram ys h e b l w = written-front fram ys (h * half-length fram) (half-length fram) l (half-within fram h e b) w
 
--- a half has room for a checkpoint with empty parts, and is not longer than half of the longest image
-pub half-sizes : (fram : List ℕ) → fram-wrong fram ≡ false → (empty-length ≤ half-length fram) × (half-length fram ≤ fram-limit / 2)
+-- a half has room for a checkpoint of the older form with empty parts, and is not longer than half of the longest image
+pub half-sizes : (fram : List ℕ) → fram-wrong fram ≡ false → (empty-length Older ≤ half-length fram) × (half-length fram ≤ fram-limit / 2)
 half-sizes fram e = let z = fram-sizes fram e in (omega (arith, two-halves fram e), omega (arith, two-halves fram e))
 
 -- the two halves share no byte

@@ -1,55 +1,101 @@
 -- A half that begins with a sealed checkpoint has a good head and tag and reads as that checkpoint, whatever follows it;
 -- and a half with a good head and tag begins with the checkpoint that it reads as, sealed. Assumes nothing.
-use Prim.Native.Nat.{ℕ, _/_, _≤_, _+_, _*_}
-use mathlib.Core.Path.{_≡_, sym}
-use mathlib.Core.Bool.{true}
+use Prim.Native.Nat.{ℕ, _/_, _≤_, _<_, _+_, _*_, _^_}
+use mathlib.Core.Path.{_≡_, refl, sym, _∙_}
+use mathlib.Core.Bool.{true, cond}
 use mathlib.Core.List.{List, _++_}
 use native.Mathlib.Omega.{arith}
 use lib.ListN.{length, length-append}
+use lib.Dec.{eqb}
 use borrow.Author.Tests.{le-leb}
 use Rattle.octets.specs.Limits.{part-limit, restart-limit}
 use Rattle.octets.specs.Octets.{part}
+use Rattle.octets.specs.Word.{word-at, kind-of}
 use Rattle.octets.proofs.Laws.{same-refl}
 use Rattle.octets.proofs.Numbers.{kind-is, value-is}
 use Rattle.gcm.specs.Gcm.{encrypted}
 use Rattle.gcm.proofs.Laws.{encrypted-twice}
-use Rattle.checkpoint.specs.Checkpoint.{Checkpoint, head-length, associated, own-tag, sealed}
+use Rattle.checkpoint.specs.Checkpoint.{Form, Older, Longer, Checkpoint, head-words, open-word, secret-word, restarts-word, head-length, associated, own-tag, sealed}
 use Rattle.checkpoint.specs.Fram.{half-length, half-at}
-use Rattle.checkpoint.specs.Half.{kind-at, value-at, kinds-from, open-length, secret-length, stored-restarts, stored-length, good-head, stored-associated, stored-previous, stored-open, stored-cipher, stored-tag, good-tag, stored}
-use Rattle.checkpoint.specs.Layout.{InRange}
+use Rattle.checkpoint.specs.Half.{kind-at, value-at, form-of, read-as, stored-packet, kinds-from, open-length, secret-length, stored-restarts, stored-length, good-head, stored-associated, stored-previous, stored-open, stored-cipher, stored-tag, good-tag, stored}
+use Rattle.checkpoint.specs.Layout.{PacketInRange, InRange}
 use Rattle.checkpoint.proofs.FramLaws.{part-of-half}
-use Rattle.checkpoint.proofs.SealedLaws.{length-sealed, word-0, word-1, word-2, associated-at, open-at, cipher-at, tag-at, previous-at}
+use Rattle.checkpoint.proofs.SealedLaws.{length-sealed, first-word, first-word-at, open-word-at, secret-word-at, restarts-word-at, associated-at, open-at, cipher-at, tag-at, previous-at}
+
+-- ---- the form
+
+-- firmware that writes heads of a form reads those of its own, and of the older one
+abbrev pub Reads : Form → Form → Type 0
+Reads Older form = form ≡ Older
+Reads Longer form = Unit {0}
+
+pub reads-own : (form : Form) → Reads form form
+reads-own Older = refl
+reads-own Longer = tt
+
+pub reads-updated : (firmware form : Form) → Reads firmware form → Reads Longer form
+reads-updated firmware form r = tt
 
 -- ---- reading what was sealed
 
 module _ (key : List ℕ) (c : Checkpoint) (rest : List ℕ) (g : InRange c) where
-  pub open-length-is : open-length (sealed key c ++ rest) ≡ length (c .open-part)
+  abbrev half : List ℕ
+  half = sealed key c ++ rest
+
+  first-kind : (form : Form) (packet n w : ℕ) → w ≡ first-word form packet n → PacketInRange form packet → n < 2 ^ 30 → cond (eqb (kind-of w) 1) Older Longer ≡ form
+  first-kind Older packet n w e p h = rw (e, kind-is 1 n h)
+  first-kind Longer packet n w e p h = rw (e, kind-is 0 packet (omega arith))
+
+  pub form-is : form-of (sealed key c ++ rest) ≡ c .form
+  unfolding form-of kind-at
+  form-is = first-kind (c .form) (c .packet) (length (c .open-part) / 4) (word-at half 0) (first-word-at key c rest g) (g .packet-small) (omega (arith, g))
+
+  read-form : (firmware form : Form) → form ≡ c .form → Reads firmware form → read-as firmware (sealed key c ++ rest) ≡ c .form
+  read-form Older form e r = sym r ∙ e
+  read-form Longer form e r = form-is
+
+  pub read-as-is : (firmware : Form) → Reads firmware (c .form) → read-as firmware (sealed key c ++ rest) ≡ c .form
+  read-as-is firmware r = read-form firmware (c .form) refl r
+
+  packet-in : (form : Form) (packet n : ℕ) (h : List ℕ) → word-at h 0 ≡ first-word form packet n → PacketInRange form packet → stored-packet form h ≡ packet
+  unfolding stored-packet value-at
+  packet-in Older packet n h e p = sym p
+  packet-in Longer packet n h e p = rw e (value-is 0 packet (omega arith))
+
+  pub packet-is : stored-packet (c .form) (sealed key c ++ rest) ≡ c .packet
+  packet-is = packet-in (c .form) (c .packet) (length (c .open-part) / 4) half (first-word-at key c rest g) (g .packet-small)
+
+  pub open-length-is : open-length (c .form) (sealed key c ++ rest) ≡ length (c .open-part)
   unfolding open-length value-at
-  open-length-is = rw (word-0 key c rest g, value-is 1 (length (c .open-part) / 4) (omega (arith, g))) (omega (arith, g))
+  open-length-is = rw (open-word-at key c rest g, value-is 1 (length (c .open-part) / 4) (omega (arith, g))) (omega (arith, g))
 
-  pub secret-length-is : secret-length (sealed key c ++ rest) ≡ length (c .secret)
+  pub secret-length-is : secret-length (c .form) (sealed key c ++ rest) ≡ length (c .secret)
   unfolding secret-length value-at
-  secret-length-is = rw (word-1 key c rest g, value-is 2 (length (c .secret) / 4) (omega (arith, g))) (omega (arith, g))
+  secret-length-is = rw (secret-word-at key c rest g, value-is 2 (length (c .secret) / 4) (omega (arith, g))) (omega (arith, g))
 
-  pub restarts-is : stored-restarts (sealed key c ++ rest) ≡ c .restarts
+  pub restarts-is : stored-restarts (c .form) (sealed key c ++ rest) ≡ c .restarts
   unfolding stored-restarts value-at
-  restarts-is = rw (word-2 key c rest g) (value-is 3 (c .restarts) (omega (arith, g)))
+  restarts-is = rw (restarts-word-at key c rest g) (value-is 3 (c .restarts) (omega (arith, g)))
 
-  fits : stored-length (sealed key c ++ rest) ≤ length (sealed key c ++ rest)
+  fits : stored-length (c .form) (sealed key c ++ rest) ≤ length (sealed key c ++ rest)
   unfolding stored-length
-  fits = rw (open-length-is, secret-length-is, length-append, length-sealed key c (g .previous-long)) (omega arith)
+  fits = rw (open-length-is, secret-length-is, length-append (sealed key c) rest, length-sealed key c (g .previous-long)) (omega arith)
 
-  pub head-passes : good-head (sealed key c ++ rest) ≡ true
-  unfolding good-head kinds-from kind-at
+  -- the kinds of the words from the open part's length on
+  kinds-at : (form : Form) (packet n m r : ℕ) (h : List ℕ) → word-at h 0 ≡ first-word form packet n → word-at h (4 * open-word form) ≡ 1 * 2 ^ 30 + n
+      → word-at h (4 * secret-word form) ≡ 2 * 2 ^ 30 + m → word-at h (4 * restarts-word form) ≡ 3 * 2 ^ 30 + r → PacketInRange form packet
+      → n < 2 ^ 30 → m < 2 ^ 30 → r < 2 ^ 30 → kinds-from h 0 (head-words form 0 0 0 0) ≡ true
+  unfolding kinds-from kind-at
+  kinds-at Older packet n m r h e a b d p x y z = rw (a, b, d, kind-is 1 n x, kind-is 2 m y, kind-is 3 r z)
+  kinds-at Longer packet n m r h e a b d p x y z = rw (e, a, b, d, kind-is 0 packet (omega arith), kind-is 1 n x, kind-is 2 m y, kind-is 3 r z)
+
+  pub head-passes : good-head (c .form) (sealed key c ++ rest) ≡ true
+  unfolding good-head
   head-passes =
       rw (
-        word-0 key c rest g,
-        word-1 key c rest g,
-        word-2 key c rest g,
-        kind-is 1 (length (c .open-part) / 4) (omega (arith, g)),
-        kind-is 2 (length (c .secret) / 4) (omega (arith, g)),
-        kind-is 3 (c .restarts) (omega (arith, g)),
-        le-leb (stored-length (sealed key c ++ rest)) (length (sealed key c ++ rest)) fits,
+        kinds-at (c .form) (c .packet) (length (c .open-part) / 4) (length (c .secret) / 4) (c .restarts) half (first-word-at key c rest g) (open-word-at key c rest g)
+            (secret-word-at key c rest g) (restarts-word-at key c rest g) (g .packet-small) (omega (arith, g)) (omega (arith, g)) (omega (arith, g)),
+        le-leb (stored-length (c .form) (sealed key c ++ rest)) (length (sealed key c ++ rest)) fits,
         open-length-is,
         secret-length-is,
         restarts-is,
@@ -58,37 +104,37 @@ module _ (key : List ℕ) (c : Checkpoint) (rest : List ℕ) (g : InRange c) whe
         le-leb (c .restarts) restart-limit (g .restarts-small),
       )
 
-  pub associated-is : stored-associated (sealed key c ++ rest) ≡ associated c
+  pub associated-is : stored-associated (c .form) (sealed key c ++ rest) ≡ associated c
   unfolding stored-associated
   associated-is = rw open-length-is (associated-at key c rest g)
 
-  pub open-is : stored-open (sealed key c ++ rest) ≡ c .open-part
+  pub open-is : stored-open (c .form) (sealed key c ++ rest) ≡ c .open-part
   unfolding stored-open
   open-is = rw open-length-is (open-at key c rest g)
 
-  pub cipher-is : stored-cipher (sealed key c ++ rest) ≡ encrypted key (c .nonce) (c .secret)
+  pub cipher-is : stored-cipher (c .form) (sealed key c ++ rest) ≡ encrypted key (c .nonce) (c .secret)
   unfolding stored-cipher
   cipher-is = rw (open-length-is, secret-length-is) (cipher-at key c rest g)
 
-  pub tag-is : stored-tag (sealed key c ++ rest) ≡ own-tag key c
+  pub tag-is : stored-tag (c .form) (sealed key c ++ rest) ≡ own-tag key c
   unfolding stored-tag
   tag-is = rw (open-length-is, secret-length-is) (tag-at key c rest g)
 
-  pub previous-is : stored-previous (sealed key c ++ rest) ≡ c .previous
+  pub previous-is : stored-previous (c .form) (sealed key c ++ rest) ≡ c .previous
   unfolding stored-previous
   previous-is = previous-at key c rest g
 
-  pub tag-passes : good-tag key (c .nonce) (sealed key c ++ rest) ≡ true
+  pub tag-passes : good-tag (c .form) key (c .nonce) (sealed key c ++ rest) ≡ true
   unfolding good-tag own-tag
   tag-passes = rw (tag-is, cipher-is, associated-is) (same-refl (own-tag key c))
 
-  pub read-back : stored key (c .nonce) (sealed key c ++ rest) ≡ c
+  pub read-back : stored (c .form) key (c .nonce) (sealed key c ++ rest) ≡ c
   unfolding stored
-  read-back = rw (open-is, cipher-is, restarts-is, previous-is, encrypted-twice)
+  read-back = rw (packet-is, open-is, cipher-is, restarts-is, previous-is, encrypted-twice)
 
 -- ---- the open part of a half, as a stretch of the image
 
-pub open-stretched : (fram : List ℕ) (h : ℕ) → head-length + open-length (half-at fram h) ≤ half-length fram
-    → part fram (h * half-length fram + head-length) (open-length (half-at fram h)) ≡ stored-open (half-at fram h)
+pub open-stretched : (form : Form) (fram : List ℕ) (h : ℕ) → head-length form + open-length form (half-at fram h) ≤ half-length fram
+    → part fram (h * half-length fram + head-length form) (open-length form (half-at fram h)) ≡ stored-open form (half-at fram h)
 unfolding stored-open
-open-stretched fram h l = sym (part-of-half fram h head-length (open-length (half-at fram h)) l)
+open-stretched form fram h l = sym (part-of-half fram h (head-length form) (open-length form (half-at fram h)) l)

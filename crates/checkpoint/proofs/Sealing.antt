@@ -10,18 +10,18 @@ use Rattle.octets.proofs.Laws.{part-append-left, part-append-right, part-whole,
 use Rattle.aes.specs.Cipher.{aes}
 use Rattle.gcm.specs.Gcm.{AE-text, AE-tag, encrypted, tag}
 use Rattle.gcm.proofs.Laws.{length-text}
-use Rattle.checkpoint.specs.Checkpoint.{Checkpoint, head-words, words, head-length, head, associated, own-tag, sealed}
+use Rattle.checkpoint.specs.Checkpoint.{Longer, Checkpoint, head-words, words, head-length, head, associated, own-tag, sealed}
 use Rattle.checkpoint.specs.Prepared.{checkpoint-of}
 use Rattle.checkpoint.proofs.SealedLaws.{length-head, length-associated}
 use Rattle.octets.proofs.Lent.{put-on}
 
-module _ (key nonce staging open-part secret previous : List ℕ) (restarts : ℕ) (CIPH : List ℕ → List ℕ) (e : CIPH ≡ aes key) (long : length previous ≡ tag-length) where
+module _ (key nonce staging open-part secret previous : List ℕ) (packet restarts : ℕ) (CIPH : List ℕ → List ℕ) (e : CIPH ≡ aes key) (long : length previous ≡ tag-length) where
   abbrev c : Checkpoint
-  c = checkpoint-of open-part secret restarts previous nonce
+  c = checkpoint-of packet open-part secret restarts previous nonce
 
-  pub staged : (s₁ s₂ s₃ s₄ t : List ℕ) (i j : ℕ) → i ≡ head-length + length open-part → j ≡ i + length secret
-      → s₁ ≡ put staging 0 (words (head-words (length open-part / 4) (length secret / 4) restarts) ++ previous)
-      → s₂ ≡ put s₁ head-length open-part → s₃ ≡ put s₂ i (AE-text CIPH nonce secret)
+  pub staged : (s₁ s₂ s₃ s₄ t : List ℕ) (i j : ℕ) → i ≡ head-length Longer + length open-part → j ≡ i + length secret
+      → s₁ ≡ put staging 0 (words (head-words Longer packet (length open-part / 4) (length secret / 4) restarts) ++ previous)
+      → s₂ ≡ put s₁ (head-length Longer) open-part → s₃ ≡ put s₂ i (AE-text CIPH nonce secret)
       → t ≡ AE-tag CIPH nonce (part s₃ 0 i) (part s₃ i (j - i)) → s₄ ≡ put s₃ j t
       → (t ≡ own-tag key c) × (s₄ ≡ put staging 0 (sealed key c))
   unfolding head associated own-tag sealed tag encrypted
@@ -29,12 +29,12 @@ module _ (key nonce staging open-part secret previous : List ℕ) (restarts : �
       let H : List ℕ = head c in
       let A : List ℕ = associated c in
       let T : List ℕ = AE-text CIPH nonce secret in
-      let lH : length H ≡ head-length = length-head c long in
+      let lH : length H ≡ head-length Longer = length-head c long in
       let lA : length A ≡ i = length-associated c long ∙ sym x in
       let lT : length T ≡ length secret = length-text CIPH nonce secret in
       let lAT : length (A ++ T) ≡ j = length-append A T ∙ omega (arith, lA, lT, y) in
       let rest : List ℕ = drop (length (A ++ T)) staging in
-      let two : s₂ ≡ put staging 0 A = b ∙ ap (λ (w : List ℕ). put w head-length open-part) a ∙ put-on staging H open-part 0 head-length (omega (arith, lH)) (omega arith) in
+      let two : s₂ ≡ put staging 0 A = b ∙ ap (λ (w : List ℕ). put w (head-length Longer) open-part) a ∙ put-on staging H open-part 0 (head-length Longer) (omega (arith, lH)) (omega arith) in
       let three : s₃ ≡ put staging 0 (A ++ T) = d ∙ ap (λ (w : List ℕ). put w i T) two ∙ put-on staging A T 0 i (omega (arith, lA)) (omega arith) in
       let split : s₃ ≡ (A ++ T) ++ rest = three ∙ put-front staging (A ++ T) in
       let front : part s₃ 0 i ≡ A =

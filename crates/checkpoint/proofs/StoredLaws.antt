@@ -1,8 +1,8 @@
 -- A half with a good head and tag begins with the checkpoint that it reads as, sealed. Assumes nothing.
-use Prim.Native.Nat.{ℕ, _+_, _*_, _/_, _%_, _^_, _≤_, _<_}
+use Prim.Native.Nat.{ℕ, zero, suc, _+_, _*_, _/_, _%_, _^_, _≤_, _<_}
 use mathlib.Core.Path.{_≡_, refl, sym, ap, ap₂, _∙_}
 use mathlib.Core.Bool.{true}
-use mathlib.Core.List.{List, _++_, append-nil}
+use mathlib.Core.List.{List, [], _∷_, _++_}
 use native.Mathlib.Nat.{div-add-mod'}
 use native.Mathlib.Omega.{arith}
 use lib.ListN.{length, take, drop, getD, take-append-drop}
@@ -15,9 +15,9 @@ use Rattle.octets.proofs.Laws.{and-true, same-equal, length-part}
 use Rattle.octets.proofs.Numbers.{bytes-number}
 use Rattle.gcm.specs.Gcm.{encrypted, tag}
 use Rattle.gcm.proofs.Laws.{encrypted-twice, length-encrypted}
-use Rattle.checkpoint.specs.Checkpoint.{words, words-length, head-length, head, associated, own-tag, sealed, sealed-length}
-use Rattle.checkpoint.specs.Half.{kind-at, value-at, kinds-from, open-length, secret-length, stored-restarts, stored-length, good-head, stored-associated, stored-previous, stored-open, stored-cipher, stored-tag, good-tag, stored}
-use Rattle.checkpoint.specs.Layout.{InRange}
+use Rattle.checkpoint.specs.Checkpoint.{Form, Older, Longer, head-words, open-word, secret-word, restarts-word, words, words-length, head-length, head, associated, own-tag, sealed, sealed-length}
+use Rattle.checkpoint.specs.Half.{kind-at, value-at, stored-packet, kinds-from, open-length, secret-length, stored-restarts, stored-length, good-head, stored-associated, stored-previous, stored-open, stored-cipher, stored-tag, good-tag, stored}
+use Rattle.checkpoint.specs.Layout.{PacketInRange, InRange}
 
 -- two parts, of which the second begins at k where the first ends
 part-join : (xs : List ℕ) (i m k n : ℕ) → k ≡ i + m → part xs i m ++ part xs k n ≡ part xs i (m + n)
@@ -38,55 +38,71 @@ word-again xs i kind h b e =
 
 -- ---- a good head
 
-pub record GoodHead (half : List ℕ) : Type 0 where
-  pub open-kind : kind-of (word-at half 0) ≡ 1
-  pub secret-kind : kind-of (word-at half 4) ≡ 2
-  pub restarts-kind : kind-of (word-at half 8) ≡ 3
-  pub open-small : open-length half ≤ part-limit
-  pub secret-small : secret-length half ≤ part-limit
-  pub restarts-small : stored-restarts half ≤ restart-limit
-  pub fits : sealed-length (open-length half) (secret-length half) ≤ length half
+pub record GoodHead (form : Form) (half : List ℕ) : Type 0 where
+  pub kinds : kinds-from half 0 (head-words form 0 0 0 0) ≡ true
+  pub open-small : open-length form half ≤ part-limit
+  pub secret-small : secret-length form half ≤ part-limit
+  pub restarts-small : stored-restarts form half ≤ restart-limit
+  pub fits : sealed-length form (open-length form half) (secret-length form half) ≤ length half
 
-pub head-facts : (half : List ℕ) → good-head half ≡ true → GoodHead half
-unfolding good-head kinds-from kind-at stored-length
-head-facts half e =
+pub head-facts : (form : Form) (half : List ℕ) → good-head form half ≡ true → GoodHead form half
+unfolding good-head stored-length
+head-facts form half e =
     let a = and-true _ _ e in
     let b = and-true _ _ (a .0) in
     let c = and-true _ _ (b .0) in
     let d = and-true _ _ (c .0) in
-    let k = and-true _ _ (d .0) in
-    let k′ = and-true _ _ (k .1) in
-    let k″ = and-true _ _ (k′ .1) in
     record {
-      open-kind = eqb-true _ _ (k .0);
-      secret-kind = eqb-true _ _ (k′ .0);
-      restarts-kind = eqb-true _ _ (k″ .0);
+      kinds = d .0;
       open-small = leb-true _ _ (d .1);
       secret-small = leb-true _ _ (c .1);
       restarts-small = leb-true _ _ (b .1);
       fits = leb-true _ _ (a .1);
     }
 
-module _ (key nonce half : List ℕ) (good : good-head half ≡ true) where
-  facts : GoodHead half
-  facts = head-facts half good
+-- the words of a list of kinds, with the values that stand in the half from the i-th word on
+words-from : List ℕ → ℕ → List (ℕ × ℕ) → List (ℕ × ℕ)
+words-from half i [] = []
+words-from half i (w ∷ more) = (w .0, value-at half i) ∷ words-from half (suc i) more
 
-  pub length-open : length (stored-open half) ≡ open-length half
+words-again : (half : List ℕ) → ((k : ℕ) → getD half k 0 < 256) → (i n : ℕ) (ws : List (ℕ × ℕ)) → n ≡ length ws → 4 * (i + n) ≤ length half
+    → kinds-from half i ws ≡ true → words (words-from half i ws) ≡ part half (4 * i) (4 * n)
+unfolding words words-from kinds-from kind-at value-at part
+words-again half b i zero [] l h e = refl
+words-again half b i (suc n) [] l h e = absurd (omega arith)
+words-again half b i zero (w ∷ ws) l h e = absurd (omega arith)
+words-again half b i (suc n) (w ∷ ws) l h e =
+    let k = and-true _ _ e in
+    let m : 4 * suc i ≡ 4 * i + 4 = omega arith in
+    let t : 4 + 4 * n ≡ 4 * suc n = omega arith in
+    (λ j. word-again half (4 * i) (w .0) (omega arith) b (eqb-true _ _ (k .0)) j ++ words-again half b (suc i) n ws (omega arith) (omega arith) (k .1) j)
+    ∙ part-join half (4 * i) 4 (4 * suc i) (4 * n) m ∙ ap (λ (x : ℕ). part half (4 * i) x) t
+
+module _ (form : Form) (key nonce half : List ℕ) (good : good-head form half ≡ true) where
+  facts : GoodHead form half
+  facts = head-facts form half good
+
+  pub length-open : length (stored-open form half) ≡ open-length form half
   unfolding stored-open
-  length-open = length-part half head-length (open-length half) (omega (arith, facts .fits))
+  length-open = length-part half (head-length form) (open-length form half) (omega (arith, facts .fits))
 
-  pub length-cipher : length (stored-cipher half) ≡ secret-length half
+  pub length-cipher : length (stored-cipher form half) ≡ secret-length form half
   unfolding stored-cipher
-  length-cipher = length-part half (head-length + open-length half) (secret-length half) (omega (arith, facts .fits))
+  length-cipher = length-part half (head-length form + open-length form half) (secret-length form half) (omega (arith, facts .fits))
 
-  pub length-secret : length (encrypted key nonce (stored-cipher half)) ≡ secret-length half
-  length-secret = length-encrypted key nonce (stored-cipher half) ∙ length-cipher
+  pub length-secret : length (encrypted key nonce (stored-cipher form half)) ≡ secret-length form half
+  length-secret = length-encrypted key nonce (stored-cipher form half) ∙ length-cipher
 
-  length-previous : length (stored-previous half) ≡ tag-length
+  length-previous : length (stored-previous form half) ≡ tag-length
   unfolding stored-previous
-  length-previous = length-part half words-length tag-length (omega (arith, facts .fits))
+  length-previous = length-part half (words-length form) tag-length (omega (arith, facts .fits))
 
-  pub stored-in-range : InRange (stored key nonce half)
+  numbered : (f : Form) → PacketInRange f (stored-packet f half)
+  unfolding stored-packet value-at value-of
+  numbered Older = refl
+  numbered Longer = omega arith
+
+  pub stored-in-range : InRange (stored form key nonce half)
   unfolding stored open-length secret-length
   stored-in-range = record {
     open-whole = omega (arith, length-open);
@@ -94,62 +110,65 @@ module _ (key nonce half : List ℕ) (good : good-head half ≡ true) where
     secret-whole = omega (arith, length-secret);
     secret-small = omega (arith, length-secret, facts .secret-small);
     restarts-small = facts .restarts-small;
+    packet-small = numbered form;
     previous-long = length-previous;
   }
 
-  stored-bytes : stored-associated half ++ stored-cipher half ++ stored-tag half ≡ take (stored-length half) half
+  stored-bytes : stored-associated form half ++ stored-cipher form half ++ stored-tag form half ≡ take (stored-length form half) half
   unfolding stored-associated stored-cipher stored-tag stored-length
   stored-bytes =
-      let n : ℕ = head-length + open-length half in
-      let m : ℕ = secret-length half in
-      let e : n + m + tag-length ≡ sealed-length (open-length half) (secret-length half) = omega arith in
+      let n : ℕ = head-length form + open-length form half in
+      let m : ℕ = secret-length form half in
+      let e : n + m + tag-length ≡ sealed-length form (open-length form half) (secret-length form half) = omega arith in
       ap (λ (l : List ℕ). l ++ part half (n + m) tag-length) (part-join half 0 n n m (omega arith))
       ∙ part-join half 0 (n + m) (n + m) tag-length (omega arith) ∙ front half (n + m + tag-length) ∙ ap (λ (k : ℕ). take k half) e
 
   -- ---- its bytes
 
   module _ (b : (i : ℕ) → getD half i 0 < 256) where
-    head-again : head (stored key nonce half) ≡ part half 0 head-length
-    unfolding head words stored stored-previous stored-restarts value-at open-length secret-length
+    -- the words of either form
+    all-words : (f : Form) → head-words f (stored-packet f half) (value-at half (open-word f)) (value-at half (secret-word f)) (value-at half (restarts-word f))
+        ≡ words-from half 0 (head-words f 0 0 0 0)
+    unfolding words-from stored-packet
+    all-words Older = refl
+    all-words Longer = refl
+
+    head-again : head (stored form key nonce half) ≡ part half 0 (head-length form)
+    unfolding head stored stored-previous stored-restarts open-length secret-length
     head-again =
-        let o : length (stored-open half) / 4 ≡ value-of (word-at half 0) = whole (length (stored-open half)) (value-of (word-at half 0)) length-open in
-        let s : length (encrypted key nonce (stored-cipher half)) / 4 ≡ value-of (word-at half 4) =
-        whole (length (encrypted key nonce (stored-cipher half))) (value-of (word-at half 4)) length-secret in
-        rw (
-          o,
-          s,
-          word-again half 0 1 (omega (arith, facts .fits)) b (facts .open-kind),
-          word-again half 4 2 (omega (arith, facts .fits)) b (facts .secret-kind),
-          word-again half 8 3 (omega (arith, facts .fits)) b (facts .restarts-kind),
-          append-nil,
-        ) joined
+        let o : length (stored-open form half) / 4 ≡ value-at half (open-word form) = whole (length (stored-open form half)) (value-at half (open-word form)) length-open in
+        let s : length (encrypted key nonce (stored-cipher form half)) / 4 ≡ value-at half (secret-word form) =
+        whole (length (encrypted key nonce (stored-cipher form half))) (value-at half (secret-word form)) length-secret in
+        let n : ℕ = length (head-words form 0 0 0 0) in
+        let w = words-again half b 0 n (head-words form 0 0 0 0) refl (omega (arith, facts .fits)) (facts .kinds) in
+        (λ i. words (head-words form (stored-packet form half) (o i) (s i) (value-at half (restarts-word form))) ++ part half (words-length form) tag-length)
+        ∙ ap (λ (l : List (ℕ × ℕ)). words l ++ part half (words-length form) tag-length) (all-words form)
+        ∙ ap (λ (l : List ℕ). l ++ part half (words-length form) tag-length) w
+        ∙ part-join half 0 (words-length form) (words-length form) tag-length (omega arith)
       where
         whole : (n v : ℕ) → n ≡ 4 * v → n / 4 ≡ v
         whole n v e = omega arith
 
-        joined : part half 0 4 ++ (part half 4 4 ++ part half 8 4) ++ part half 12 16 ≡ part half 0 28
-        joined =
-            ap (λ (l : List ℕ). part half 0 4 ++ l ++ part half 12 16) (part-join half 4 4 8 4 refl)
-            ∙ ap (λ (l : List ℕ). l ++ part half 12 16) (part-join half 0 4 4 8 refl) ∙ part-join half 0 12 12 16 refl
-
-    pub associated-again : associated (stored key nonce half) ≡ stored-associated half
+    pub associated-again : associated (stored form key nonce half) ≡ stored-associated form half
     unfolding associated stored-associated stored stored-open
-    associated-again = ap (λ (l : List ℕ). l ++ part half head-length (open-length half)) head-again ∙ part-join half 0 head-length head-length (open-length half) refl
+    associated-again =
+        ap (λ (l : List ℕ). l ++ part half (head-length form) (open-length form half)) head-again
+        ∙ part-join half 0 (head-length form) (head-length form) (open-length form half) (omega arith)
 
-    module _ (tag-good : good-tag key nonce half ≡ true) where
+    module _ (tag-good : good-tag form key nonce half ≡ true) where
       -- its tag is that of the checkpoint
-      pub tag-again : own-tag key (stored key nonce half) ≡ stored-tag half
+      pub tag-again : own-tag key (stored form key nonce half) ≡ stored-tag form half
       unfolding own-tag good-tag stored
       tag-again =
-          ap₂ (λ (a c : List ℕ). tag key nonce a c) associated-again (encrypted-twice key nonce (stored-cipher half))
-          ∙ sym (same-equal (stored-tag half) (tag key nonce (stored-associated half) (stored-cipher half)) tag-good)
+          ap₂ (λ (a c : List ℕ). tag key nonce a c) associated-again (encrypted-twice key nonce (stored-cipher form half))
+          ∙ sym (same-equal (stored-tag form half) (tag key nonce (stored-associated form half) (stored-cipher form half)) tag-good)
 
-      pub sealed-again : sealed key (stored key nonce half) ≡ take (stored-length half) half
+      pub sealed-again : sealed key (stored form key nonce half) ≡ take (stored-length form half) half
       unfolding sealed stored
       sealed-again =
-          ap₂ (λ (a t : List ℕ). a ++ encrypted key nonce (encrypted key nonce (stored-cipher half)) ++ t) associated-again tag-again
-          ∙ ap (λ (l : List ℕ). stored-associated half ++ l ++ stored-tag half) (encrypted-twice key nonce (stored-cipher half)) ∙ stored-bytes
+          ap₂ (λ (a t : List ℕ). a ++ encrypted key nonce (encrypted key nonce (stored-cipher form half)) ++ t) associated-again tag-again
+          ∙ ap (λ (l : List ℕ). stored-associated form half ++ l ++ stored-tag form half) (encrypted-twice key nonce (stored-cipher form half)) ∙ stored-bytes
 
       -- the half begins with it
-      pub begins : half ≡ sealed key (stored key nonce half) ++ drop (stored-length half) half
-      begins = sym (take-append-drop (stored-length half) half) ∙ ap (λ (l : List ℕ). l ++ drop (stored-length half) half) (sym sealed-again)
+      pub begins : half ≡ sealed key (stored form key nonce half) ++ drop (stored-length form half) half
+      begins = sym (take-append-drop (stored-length form half) half) ∙ ap (λ (l : List ℕ). l ++ drop (stored-length form half) half) (sym sealed-again)

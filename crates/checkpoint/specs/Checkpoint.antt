@@ -1,4 +1,4 @@
--- A checkpoint and its sealed layout (document 01, "A half of the FRAM"). Lengths are in bytes.
+-- A checkpoint and its sealed layout (document 01, "A half of the FRAM", and document 02, A.2). Lengths are in bytes.
 use Prim.Native.Nat.{ℕ, _+_, _*_, _/_, _%_}
 use mathlib.Core.Bool.{Bool, not, _||_}
 use mathlib.Core.List.{List, [], _∷_, _++_}
@@ -8,8 +8,15 @@ use Rattle.octets.specs.Limits.{part-limit, tag-length}
 use Rattle.octets.specs.Word.{word}
 use Rattle.gcm.specs.Gcm.{encrypted, tag}
 
--- `previous` is the previous checkpoint's tag; the nonce is the ring record's
+-- the form of a head: document 01's, which older firmware writes, or document 02's, which begins with the packet number
+pub data Form : Type 0 where
+  Older : Form
+  Longer : Form
+
+-- `previous` is the previous checkpoint's tag; the nonce is the ring record's; in the older form the packet number is 0
 pub record Checkpoint : Type 0 where
+  pub form : Form
+  pub packet : ℕ
   pub open-part : List ℕ
   pub secret : List ℕ
   pub restarts : ℕ
@@ -18,33 +25,38 @@ pub record Checkpoint : Type 0 where
 
 -- ---- the head
 
--- its words, each with its kind and value, given both parts' lengths in words and the restarts
-abbrev pub head-words : ℕ → ℕ → ℕ → List (ℕ × ℕ)
-head-words open-words secret-words restarts = (1, open-words) ∷ (2, secret-words) ∷ (3, restarts) ∷ []
+-- the words before the open part's length, each with its kind and value
+abbrev pub front-words : Form → ℕ → List (ℕ × ℕ)
+front-words Older packet = []
+front-words Longer packet = (0, packet) ∷ []
 
--- the number of each word in that list
-abbrev pub open-word : ℕ
-open-word = 0
+-- all words, given the packet number, both parts' lengths in words and the restarts
+abbrev pub head-words : Form → ℕ → ℕ → ℕ → ℕ → List (ℕ × ℕ)
+head-words form packet open-words secret-words restarts = front-words form packet ++ ((1, open-words) ∷ (2, secret-words) ∷ (3, restarts) ∷ [])
 
-abbrev pub secret-word : ℕ
-secret-word = 1
+-- which word of that list, from 0, holds the open part's length, which the secret part's, and which the restarts
+abbrev pub open-word : Form → ℕ
+open-word form = length (front-words form 0)
 
-abbrev pub restarts-word : ℕ
-restarts-word = 2
+abbrev pub secret-word : Form → ℕ
+secret-word form = open-word form + 1
+
+abbrev pub restarts-word : Form → ℕ
+restarts-word form = open-word form + 2
 
 unfoldable pub words : List (ℕ × ℕ) → List ℕ
 words [] = []
 words (w ∷ more) = word (w .0) (w .1) ++ words more
 
--- behind the words comes the previous checkpoint's tag
-abbrev pub words-length : ℕ
-words-length = 4 * length (head-words 0 0 0)
+-- the bytes of the words; the previous checkpoint's tag follows
+abbrev pub words-length : Form → ℕ
+words-length form = 4 * length (head-words form 0 0 0 0)
 
-abbrev pub head-length : ℕ
-head-length = words-length + tag-length
+abbrev pub head-length : Form → ℕ
+head-length form = words-length form + tag-length
 
 unfoldable pub head : Checkpoint → List ℕ
-head c = words (head-words (length (c .open-part) / 4) (length (c .secret) / 4) (c .restarts)) ++ c .previous
+head c = words (head-words (c .form) (c .packet) (length (c .open-part) / 4) (length (c .secret) / 4) (c .restarts)) ++ c .previous
 
 -- ---- the sealed checkpoint
 
@@ -59,12 +71,12 @@ unfoldable pub sealed : List ℕ → Checkpoint → List ℕ
 sealed key c = associated c ++ encrypted key (c .nonce) (c .secret) ++ own-tag key c
 
 -- the length of a checkpoint with empty parts
-abbrev pub empty-length : ℕ
-empty-length = head-length + tag-length
+abbrev pub empty-length : Form → ℕ
+empty-length form = head-length form + tag-length
 
 -- the length of one whose parts have the lengths m and n
-abbrev pub sealed-length : ℕ → ℕ → ℕ
-sealed-length m n = empty-length + m + n
+abbrev pub sealed-length : Form → ℕ → ℕ → ℕ
+sealed-length form m n = empty-length form + m + n
 
 -- stop 4: a part is not a multiple of 4 bytes, or too long
 unfoldable pub part-wrong : List ℕ → Bool

@@ -1,6 +1,6 @@
--- Reading a half of the FRAM (document 01, "A half of the FRAM", and stops 11 and 12 of its table).
+-- Reading a half of the FRAM (document 01, "A half of the FRAM", and stops 11 and 12 of its table; document 02, A.2).
 use Prim.Native.Nat.{ℕ, suc, _+_, _*_}
-use mathlib.Core.Bool.{Bool, true, _&&_}
+use mathlib.Core.Bool.{Bool, true, cond, _&&_}
 use mathlib.Core.List.{List, [], _∷_}
 use lib.ListN.{length}
 use lib.Dec.{eqb, leb}
@@ -8,7 +8,7 @@ use Rattle.octets.specs.Limits.{part-limit, restart-limit, tag-length}
 use Rattle.octets.specs.Octets.{part, same}
 use Rattle.octets.specs.Word.{word-at, kind-of, value-of}
 use Rattle.gcm.specs.Gcm.{encrypted, tag}
-use Rattle.checkpoint.specs.Checkpoint.{Checkpoint, head-words, open-word, secret-word, restarts-word, words-length, head-length, sealed-length}
+use Rattle.checkpoint.specs.Checkpoint.{Form, Older, Longer, Checkpoint, head-words, open-word, secret-word, restarts-word, words-length, head-length, sealed-length}
 
 -- the kind and the value of the head's i-th word
 unfoldable pub kind-at : List ℕ → ℕ → ℕ
@@ -17,14 +17,29 @@ kind-at half i = kind-of (word-at half (4 * i))
 unfoldable pub value-at : List ℕ → ℕ → ℕ
 value-at half i = value-of (word-at half (4 * i))
 
-unfoldable pub open-length : List ℕ → ℕ
-open-length half = 4 * value-at half open-word
+-- the form of a half's head: a first word of kind 1 means the older one
+unfoldable pub form-of : List ℕ → Form
+form-of half = cond (eqb (kind-at half 0) 1) Older Longer
 
-unfoldable pub secret-length : List ℕ → ℕ
-secret-length half = 4 * value-at half secret-word
+-- how firmware that writes heads of a form reads a half: older firmware takes every half for its own form, newer goes by the first word
+abbrev pub read-as : Form → List ℕ → Form
+read-as Older half = Older
+read-as Longer half = form-of half
 
-unfoldable pub stored-restarts : List ℕ → ℕ
-stored-restarts half = value-at half restarts-word
+-- ---- what a head of a form says
+
+unfoldable pub stored-packet : Form → List ℕ → ℕ
+stored-packet Older half = 0
+stored-packet Longer half = value-at half 0
+
+unfoldable pub open-length : Form → List ℕ → ℕ
+open-length form half = 4 * value-at half (open-word form)
+
+unfoldable pub secret-length : Form → List ℕ → ℕ
+secret-length form half = 4 * value-at half (secret-word form)
+
+unfoldable pub stored-restarts : Form → List ℕ → ℕ
+stored-restarts form half = value-at half (restarts-word form)
 
 -- the words of a half from the i-th on have the kinds of the list
 unfoldable pub kinds-from : List ℕ → ℕ → List (ℕ × ℕ) → Bool
@@ -32,43 +47,45 @@ kinds-from half i [] = true
 kinds-from half i (w ∷ more) = eqb (kind-at half i) (w .0) && kinds-from half (suc i) more
 
 -- the length of the whole checkpoint
-unfoldable pub stored-length : List ℕ → ℕ
-stored-length half = sealed-length (open-length half) (secret-length half)
+unfoldable pub stored-length : Form → List ℕ → ℕ
+stored-length form half = sealed-length form (open-length form half) (secret-length form half)
 
 -- not stop 11: the head's words have their kinds and are in range, and the checkpoint fits the half
-unfoldable pub good-head : List ℕ → Bool
-good-head half =
-    kinds-from half 0 (head-words 0 0 0) && leb (open-length half) part-limit && leb (secret-length half) part-limit &&
-    leb (stored-restarts half) restart-limit && leb (stored-length half) (length half)
+unfoldable pub good-head : Form → List ℕ → Bool
+good-head form half =
+    kinds-from half 0 (head-words form 0 0 0 0) && leb (open-length form half) part-limit && leb (secret-length form half) part-limit &&
+    leb (stored-restarts form half) restart-limit && leb (stored-length form half) (length half)
 
 -- ---- its parts
 
-unfoldable pub stored-associated : List ℕ → List ℕ
-stored-associated half = part half 0 (head-length + open-length half)
+unfoldable pub stored-associated : Form → List ℕ → List ℕ
+stored-associated form half = part half 0 (head-length form + open-length form half)
 
-unfoldable pub stored-previous : List ℕ → List ℕ
-stored-previous half = part half words-length tag-length
+unfoldable pub stored-previous : Form → List ℕ → List ℕ
+stored-previous form half = part half (words-length form) tag-length
 
-unfoldable pub stored-open : List ℕ → List ℕ
-stored-open half = part half head-length (open-length half)
+unfoldable pub stored-open : Form → List ℕ → List ℕ
+stored-open form half = part half (head-length form) (open-length form half)
 
 -- the sealed secret part
-unfoldable pub stored-cipher : List ℕ → List ℕ
-stored-cipher half = part half (head-length + open-length half) (secret-length half)
+unfoldable pub stored-cipher : Form → List ℕ → List ℕ
+stored-cipher form half = part half (head-length form + open-length form half) (secret-length form half)
 
-unfoldable pub stored-tag : List ℕ → List ℕ
-stored-tag half = part half (head-length + open-length half + secret-length half) tag-length
+unfoldable pub stored-tag : Form → List ℕ → List ℕ
+stored-tag form half = part half (head-length form + open-length form half + secret-length form half) tag-length
 
 -- not stop 12: the tag is the standard's
-unfoldable pub good-tag : List ℕ → List ℕ → List ℕ → Bool
-good-tag key nonce half = same (stored-tag half) (tag key nonce (stored-associated half) (stored-cipher half))
+unfoldable pub good-tag : Form → List ℕ → List ℕ → List ℕ → Bool
+good-tag form key nonce half = same (stored-tag form half) (tag key nonce (stored-associated form half) (stored-cipher form half))
 
 -- what a half with a good head and tag holds
-unfoldable pub stored : List ℕ → List ℕ → List ℕ → Checkpoint
-stored key nonce half = record {
-  open-part = stored-open half;
-  secret = encrypted key nonce (stored-cipher half);
-  restarts = stored-restarts half;
-  previous = stored-previous half;
+unfoldable pub stored : Form → List ℕ → List ℕ → List ℕ → Checkpoint
+stored form key nonce half = record {
+  form = form;
+  packet = stored-packet form half;
+  open-part = stored-open form half;
+  secret = encrypted key nonce (stored-cipher form half);
+  restarts = stored-restarts form half;
+  previous = stored-previous form half;
   nonce = nonce;
 }

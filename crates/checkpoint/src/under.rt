@@ -10,24 +10,25 @@ ghost use mathlib.Core.Path.{_≡_};
 ghost use mathlib.Core.Bool.{true};
 ghost use Prim.Native.Nat.{_≤_};
 ghost use lib.ListN.{length};
-ghost use Rattle.octets.specs.Limits.{key-length, nonce-length, part-limit, restart-limit, tag-length};
+ghost use Rattle.octets.specs.Limits.{key-length, nonce-length, part-limit, restart-limit, packet-limit, tag-length};
 ghost use Rattle.octets.specs.Octets.{put};
-ghost use Rattle.checkpoint.specs.Checkpoint.{sealed-length, sealed, own-tag};
-ghost use Rattle.checkpoint.specs.Half.{open-length, secret-length, good-head, good-tag};
+ghost use Rattle.checkpoint.specs.Checkpoint.{Longer, head-length, sealed-length, sealed, own-tag};
+ghost use Rattle.checkpoint.specs.Half.{form-of, open-length, secret-length, good-head, good-tag};
 ghost use Rattle.checkpoint.specs.Prepared.{checkpoint-of};
 
 // Seals a checkpoint to the front of staging and answers its tag.
 pub fn seal_under(
     key: &[u8],
     nonce: &[u8],
+    packet: usize,
     restarts: usize,
     previous: &[u8],
     open: &[u8],
     secret: &[u8],
     staging: &mut [u8],
 ) -> [u8; 16]
-    requires { ⌜ (length (now key) ≡ key-length) × (length (now nonce) ≡ nonce-length) × (restarts ≤ restart-limit) × (length (now previous) ≡ tag-length) × (length (now «open») ≤ part-limit) × (length (now secret) ≤ part-limit) × (sealed-length (length (now «open»)) (length (now secret)) ≤ length (now staging)) ⌝ }
-    ensures { λ r. ⌜ (r ≡ own-tag (now (key .entry)) (checkpoint-of (now («open» .entry)) (now (secret .entry)) restarts (now (previous .entry)) (now (nonce .entry)))) × (now (staging .exit) ≡ put (now (staging .entry)) 0 (sealed (now (key .entry)) (checkpoint-of (now («open» .entry)) (now (secret .entry)) restarts (now (previous .entry)) (now (nonce .entry))))) ⌝ }
+    requires { ⌜ (length (now key) ≡ key-length) × (length (now nonce) ≡ nonce-length) × (packet ≤ packet-limit) × (restarts ≤ restart-limit) × (length (now previous) ≡ tag-length) × (length (now «open») ≤ part-limit) × (length (now secret) ≤ part-limit) × (sealed-length Longer (length (now «open»)) (length (now secret)) ≤ length (now staging)) ⌝ }
+    ensures { λ r. ⌜ (r ≡ own-tag (now (key .entry)) (checkpoint-of packet (now («open» .entry)) (now (secret .entry)) restarts (now (previous .entry)) (now (nonce .entry)))) × (now (staging .exit) ≡ put (now (staging .entry)) 0 (sealed (now (key .entry)) (checkpoint-of packet (now («open» .entry)) (now (secret .entry)) restarts (now (previous .entry)) (now (nonce .entry))))) ⌝ }
 {
     let rounds = key.len() / 4 + 6;
     let table = round_table();
@@ -39,6 +40,7 @@ pub fn seal_under(
         rounds,
         &steps,
         nonce,
+        packet,
         restarts,
         previous,
         open,
@@ -51,15 +53,32 @@ pub fn seal_under(
 }
 
 // Whether the tag of a half with a good head is the standard's.
-pub fn good_tag_under(key: &[u8], nonce: &[u8], half: &[u8], open: usize, secret: usize) -> bool
-    requires { ⌜ (length (now key) ≡ key-length) × (length (now nonce) ≡ nonce-length) × (good-head (now half) ≡ true) × («open» ≡ open-length (now half)) × (secret ≡ secret-length (now half)) ⌝ }
-    ensures { λ r. ⌜ r ≡ good-tag (now (key .entry)) (now (nonce .entry)) (now (half .entry)) ⌝ }
+pub fn good_tag_under(
+    key: &[u8],
+    nonce: &[u8],
+    half: &[u8],
+    start: usize,
+    open: usize,
+    secret: usize,
+) -> bool
+    requires { ⌜ (length (now key) ≡ key-length) × (length (now nonce) ≡ nonce-length) × (good-head (form-of (now half)) (now half) ≡ true) × (start ≡ head-length (form-of (now half))) × («open» ≡ open-length (form-of (now half)) (now half)) × (secret ≡ secret-length (form-of (now half)) (now half)) ⌝ }
+    ensures { λ r. ⌜ r ≡ good-tag (form-of (now (half .entry))) (now (key .entry)) (now (nonce .entry)) (now (half .entry)) ⌝ }
 {
     let rounds = key.len() / 4 + 6;
     let table = round_table();
     let mut keys = expand_key(key);
     let mut steps = hash_steps(&table, &keys, rounds);
-    let good = good_tag(&table, &keys, rounds, &steps, nonce, half, open, secret);
+    let good = good_tag(
+        &table,
+        &keys,
+        rounds,
+        &steps,
+        nonce,
+        half,
+        start,
+        open,
+        secret,
+    );
     fill(&mut keys, 0);
     wipe_steps(&mut steps);
     good

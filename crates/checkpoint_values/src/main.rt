@@ -1,31 +1,38 @@
-// Prints sealed checkpoints of several sizes in both halves of a FRAM image, then how each reads, and how a half reads that was changed.
+// Prints sealed checkpoints of several sizes in both halves of a FRAM image, then how each reads, and how a half reads that was changed, also
+// one with a checkpoint of the older form, which comes from standard input.
 use aes::expand_key;
 use aes::table::round_table;
+use checkpoint::half::Head;
 use checkpoint::half::good_tag;
 use checkpoint::half::open_part;
 use checkpoint::half::open_secret;
 use checkpoint::half::read_head;
 use checkpoint::layout::EMPTY_LENGTH;
+use checkpoint::layout::PACKET_LENGTH;
 use checkpoint::staging::seal;
 use gcm::tag::hash_steps;
+use libc::STDIN_FILENO;
 use libc::STDOUT_FILENO;
-use octets::copy;
+use octets::copy_at;
 use octets::part;
 use octets::same;
 ghost use mathlib.Core.Path.{_≡_};
 ghost use mathlib.Core.Bool.{true};
 ghost use Prim.Native.Nat.{_<_, _≤_};
 ghost use lib.ListN.{length};
-ghost use Rattle.checkpoint.specs.Half.{open-length, secret-length, good-head};
+ghost use Rattle.octets.specs.Limits.{packet-limit};
+ghost use Rattle.checkpoint.specs.Checkpoint.{head-length};
+ghost use Rattle.checkpoint.specs.Half.{form-of, open-length, secret-length, good-head};
 
 // The longest checkpoint; an image holds two.
-const HALF: usize = 8_236;
+const HALF: usize = 8_240;
 
 const ROUNDS: usize = 14;
 
-// A checkpoint: its half, both parts' lengths, its restarts, and its nonce's first byte.
+// A checkpoint: its half, its packet number, both parts' lengths, its restarts, and its nonce's first byte.
 struct Case {
     half: usize,
+    packet: usize,
     open: usize,
     secret: usize,
     restarts: usize,
@@ -75,8 +82,8 @@ fn second_part() -> [u8; 4096] {
 
 // Seals the checkpoint into staging.
 fn stage(c: Case, staging: &mut [u8])
-    requires { ⌜ (c .«open» ≤ 4096) × (c .secret ≤ 4096) × (c .restarts ≤ 8) × (length (now staging) ≡ 8236) ⌝ }
-    ensures { λ _. ⌜ length (now (staging .exit)) ≡ 8236 ⌝ }
+    requires { ⌜ (c .packet ≤ packet-limit) × (c .«open» ≤ 4096) × (c .secret ≤ 4096) × (c .restarts ≤ 8) × (length (now staging) ≡ 8240) ⌝ }
+    ensures { λ _. ⌜ length (now (staging .exit)) ≡ 8240 ⌝ }
 {
     let open = c.open;
     let secret = c.secret;
@@ -91,6 +98,7 @@ fn stage(c: Case, staging: &mut [u8])
         ROUNDS,
         &steps,
         &nonce(c.first),
+        c.packet,
         c.restarts,
         &previous(),
         part(&first, 0, open),
@@ -121,6 +129,7 @@ fn print_case(c: Case) {
     } else {
         io::write_all(STDOUT_FILENO, b"half B");
     }
+    print_number(b" packet ", c.packet);
     print_number(b" open ", c.open);
     print_number(b" secret ", c.secret);
     print_number(b" restarts ", c.restarts);
@@ -128,21 +137,21 @@ fn print_case(c: Case) {
 
 // Puts the checkpoint into its half of the image.
 fn place(c: Case, image: &mut [u8])
-    requires { ⌜ (c .half ≤ 1) × (c .«open» ≤ 4096) × (c .secret ≤ 4096) × (c .restarts ≤ 8) × (length (now image) ≡ 16472) ⌝ }
-    ensures { λ _. ⌜ length (now (image .exit)) ≡ 16472 ⌝ }
+    requires { ⌜ (c .half ≤ 1) × (c .packet ≤ packet-limit) × (c .«open» ≤ 4096) × (c .secret ≤ 4096) × (c .restarts ≤ 8) × (length (now image) ≡ 16480) ⌝ }
+    ensures { λ _. ⌜ length (now (image .exit)) ≡ 16480 ⌝ }
 {
-    let mut staging = [0u8; 8236];
+    let mut staging = [0u8; 8240];
     stage(c, &mut staging);
     let i = c.half * HALF;
     let n = EMPTY_LENGTH + c.open + c.secret;
-    copy(part(&staging, 0, n), &mut image[i..]);
+    copy_at(part(&staging, 0, n), image, i);
 }
 
 // Prints what the checkpoint's half then begins with.
 fn show(c: Case)
-    requires { ⌜ (c .half ≤ 1) × (c .«open» ≤ 4096) × (c .secret ≤ 4096) × (c .restarts ≤ 8) ⌝ }
+    requires { ⌜ (c .half ≤ 1) × (c .packet ≤ packet-limit) × (c .«open» ≤ 4096) × (c .secret ≤ 4096) × (c .restarts ≤ 8) ⌝ }
 {
-    let mut image = [0xFFu8; 16472];
+    let mut image = [0xFFu8; 16480];
     place(c, &mut image);
     print_case(c);
     io::write_all(STDOUT_FILENO, b"\n");
@@ -153,11 +162,11 @@ fn show(c: Case)
 }
 
 // Whether the open part is the one sealed.
-fn open_agrees(half: &[u8], open: usize) -> bool
-    requires { ⌜ (good-head (now half) ≡ true) × («open» ≡ open-length (now half)) × («open» ≤ 4096) ⌝ }
+fn open_agrees(half: &[u8], start: usize, open: usize) -> bool
+    requires { ⌜ (good-head (form-of (now half)) (now half) ≡ true) × (start ≡ head-length (form-of (now half))) × («open» ≡ open-length (form-of (now half)) (now half)) × («open» ≤ 4096) ⌝ }
 {
     let first = first_part();
-    same(open_part(half, open), part(&first, 0, open))
+    same(open_part(half, start, open), part(&first, 0, open))
 }
 
 // Whether a state begins with the secret part that was sealed.
@@ -168,16 +177,34 @@ fn secret_agrees(state: &[u8; 4096], secret: usize) -> bool
     same(part(state, 0, secret), part(&second, 0, secret))
 }
 
+// Whether the head says what the checkpoint's does.
+fn head_agrees(head: Head, c: Case) -> bool {
+    (head.packet == c.packet)
+        & (head.open == c.open)
+        & (head.secret == c.secret)
+        & (head.restarts == c.restarts)
+}
+
 // Stop 12, or 0 where both parts are the ones sealed, else 1.
-fn opened(half: &[u8], open: usize, secret: usize, first: u8) -> usize
-    requires { ⌜ (good-head (now half) ≡ true) × («open» ≡ open-length (now half)) × (secret ≡ secret-length (now half)) × («open» ≤ 4096) × (secret ≤ 4096) ⌝ }
+fn opened(half: &[u8], start: usize, open: usize, secret: usize, first: u8) -> usize
+    requires { ⌜ (good-head (form-of (now half)) (now half) ≡ true) × (start ≡ head-length (form-of (now half))) × («open» ≡ open-length (form-of (now half)) (now half)) × (secret ≡ secret-length (form-of (now half)) (now half)) × («open» ≤ 4096) × (secret ≤ 4096) ⌝ }
 {
-    let same_open = open_agrees(half, open);
+    let same_open = open_agrees(half, start, open);
     let table = round_table();
     let keys = expand_key(&key());
     let steps = hash_steps(&table, &keys, ROUNDS);
     let nonce = nonce(first);
-    if good_tag(&table, &keys, ROUNDS, &steps, &nonce, half, open, secret) {
+    if good_tag(
+        &table,
+        &keys,
+        ROUNDS,
+        &steps,
+        &nonce,
+        half,
+        start,
+        open,
+        secret,
+    ) {
         let mut state = [0u8; 4096];
         open_secret(
             &table,
@@ -185,6 +212,7 @@ fn opened(half: &[u8], open: usize, secret: usize, first: u8) -> usize
             ROUNDS,
             &nonce,
             half,
+            start,
             open,
             secret,
             &mut state,
@@ -197,57 +225,64 @@ fn opened(half: &[u8], open: usize, secret: usize, first: u8) -> usize
     12
 }
 
-// The stop that the half gives, or what it reads as.
-fn reads(half: &[u8], first: u8) -> usize {
-    if half.len() < EMPTY_LENGTH {
+// The stop that the half gives; else 0 where it reads as the checkpoint, 1 where a part differs, 2 where the head does.
+fn reads(half: &[u8], c: Case) -> usize {
+    if half.len() < EMPTY_LENGTH - PACKET_LENGTH {
         return 11;
     }
     let head = read_head(half);
     if head.good {
-        return opened(half, head.open, head.secret, first);
+        let n = opened(half, head.start, head.open, head.secret, c.first);
+        if n != 0 {
+            return n;
+        }
+        if head_agrees(head, c) {
+            return 0;
+        }
+        return 2;
     }
     11
 }
 
 // Prints how the checkpoint reads from its half.
 fn show_reading(c: Case)
-    requires { ⌜ (c .half ≤ 1) × (c .«open» ≤ 4096) × (c .secret ≤ 4096) × (c .restarts ≤ 8) ⌝ }
+    requires { ⌜ (c .half ≤ 1) × (c .packet ≤ packet-limit) × (c .«open» ≤ 4096) × (c .secret ≤ 4096) × (c .restarts ≤ 8) ⌝ }
 {
-    let mut image = [0xFFu8; 16472];
+    let mut image = [0xFFu8; 16480];
     place(c, &mut image);
     print_case(c);
     let i = c.half * HALF;
-    print_number(b": ", reads(part(&image, i, HALF), c.first));
+    print_number(b": ", reads(part(&image, i, HALF), c));
     io::write_all(STDOUT_FILENO, b"\n");
 }
 
-// Prints how a half of n bytes reads, with one byte of its checkpoint changed.
-fn show_change(name: &[u8], n: usize, at: usize, byte: u8)
-    requires { ⌜ (n ≤ 8236) × (at < 8236) ⌝ }
+// Prints how the first n bytes of a half with the checkpoint read, with one byte changed, which then comes back.
+fn show_change(name: &[u8], c: Case, half: &mut [u8], n: usize, at: usize, byte: u8)
+    requires { ⌜ (n ≤ 8240) × (at < 8240) × (length (now half) ≡ 8240) ⌝ }
+    ensures { λ _. ⌜ length (now (half .exit)) ≡ 8240 ⌝ }
 {
-    let mut staging = [0u8; 8236];
-    stage(
-        Case {
-            half: 0,
-            open: 8,
-            secret: 4,
-            restarts: 3,
-            first: 48,
-        },
-        &mut staging,
-    );
-    staging[at] = byte;
+    let before = half[at];
+    half[at] = byte;
     io::write_all(STDOUT_FILENO, name);
-    print_number(b": ", reads(part(&staging, 0, n), 48));
+    print_number(b": ", reads(part(half, 0, n), c));
     io::write_all(STDOUT_FILENO, b"\n");
+    half[at] = before;
 }
 
-fn a_case(half: usize, open: usize, secret: usize, restarts: usize, first: u8) -> Case
-    requires { ⌜ (half ≤ 1) × («open» ≤ 4096) × (secret ≤ 4096) × (restarts ≤ 8) ⌝ }
-    ensures { λ r. ⌜ (r .half ≤ 1) × (r .«open» ≤ 4096) × (r .secret ≤ 4096) × (r .restarts ≤ 8) ⌝ }
+fn a_case(
+    half: usize,
+    packet: usize,
+    open: usize,
+    secret: usize,
+    restarts: usize,
+    first: u8,
+) -> Case
+    requires { ⌜ (half ≤ 1) × (packet ≤ packet-limit) × («open» ≤ 4096) × (secret ≤ 4096) × (restarts ≤ 8) ⌝ }
+    ensures { λ r. ⌜ (r .half ≤ 1) × (r .packet ≤ packet-limit) × (r .«open» ≤ 4096) × (r .secret ≤ 4096) × (r .restarts ≤ 8) ⌝ }
 {
     Case {
         half,
+        packet,
         open,
         secret,
         restarts,
@@ -257,17 +292,17 @@ fn a_case(half: usize, open: usize, secret: usize, restarts: usize, first: u8) -
 
 // The checkpoint with a number, 0 to 7.
 fn numbered(k: usize) -> Case
-    ensures { λ r. ⌜ (r .half ≤ 1) × (r .«open» ≤ 4096) × (r .secret ≤ 4096) × (r .restarts ≤ 8) ⌝ }
+    ensures { λ r. ⌜ (r .half ≤ 1) × (r .packet ≤ packet-limit) × (r .«open» ≤ 4096) × (r .secret ≤ 4096) × (r .restarts ≤ 8) ⌝ }
 {
     match k {
-        0 => a_case(0, 0, 0, 0, 0),
-        1 => a_case(1, 0, 0, 8, 128),
-        2 => a_case(0, 4, 0, 1, 16),
-        3 => a_case(1, 0, 4, 2, 32),
-        4 => a_case(0, 8, 4, 3, 48),
-        5 => a_case(1, 20, 36, 4, 64),
-        6 => a_case(0, 4096, 4096, 5, 80),
-        _ => a_case(1, 4096, 4096, 6, 96),
+        0 => a_case(0, 0, 0, 0, 0, 0),
+        1 => a_case(1, 1, 0, 0, 8, 128),
+        2 => a_case(0, 256, 4, 0, 1, 16),
+        3 => a_case(1, 65_536, 0, 4, 2, 32),
+        4 => a_case(0, 5, 8, 4, 3, 48),
+        5 => a_case(1, 1_073_741_823, 20, 36, 4, 64),
+        6 => a_case(0, 16_777_216, 4096, 4096, 5, 80),
+        _ => a_case(1, 305_419_896, 4096, 4096, 6, 96),
     }
 }
 
@@ -283,24 +318,101 @@ fn show_readings() {
     }
 }
 
+// Words of another kind. Those from the open part's length on stand at offset i.
+fn show_kinds(c: Case, half: &mut [u8], i: usize)
+    requires { ⌜ (i ≤ 4) × (length (now half) ≡ 8240) ⌝ }
+    ensures { λ _. ⌜ length (now (half .exit)) ≡ 8240 ⌝ }
+{
+    show_change(b"open length of kind 0", c, half, HALF, i, 0x00);
+    show_change(b"open length of kind 2", c, half, HALF, i, 0x80);
+    show_change(b"secret length of kind 1", c, half, HALF, i + 4, 0x40);
+    show_change(b"secret length of kind 3", c, half, HALF, i + 4, 0xC0);
+    show_change(b"restarts of kind 0", c, half, HALF, i + 8, 0x00);
+}
+
+// Words with another value.
+fn show_values(c: Case, half: &mut [u8], i: usize)
+    requires { ⌜ (i ≤ 4) × (length (now half) ≡ 8240) ⌝ }
+    ensures { λ _. ⌜ length (now (half .exit)) ≡ 8240 ⌝ }
+{
+    show_change(b"open part of 1026 words", c, half, HALF, i + 2, 0x04);
+    show_change(b"open part of 1 word", c, half, HALF, i + 3, 1);
+    show_change(b"secret part of 1025 words", c, half, HALF, i + 6, 0x04);
+    show_change(b"9 restarts", c, half, HALF, i + 11, 9);
+    show_change(b"8 restarts", c, half, HALF, i + 11, 8);
+}
+
+// Another byte behind the words, where the parts have 8 and 4.
+fn show_bytes(c: Case, half: &mut [u8], i: usize)
+    requires { ⌜ (i ≤ 4) × (length (now half) ≡ 8240) ⌝ }
+    ensures { λ _. ⌜ length (now (half .exit)) ≡ 8240 ⌝ }
+{
+    show_change(b"a byte of the previous tag", c, half, HALF, i + 12, 0);
+    show_change(b"a byte of the open part", c, half, HALF, i + 28, 0);
+    show_change(
+        b"a byte of the sealed secret part",
+        c,
+        half,
+        HALF,
+        i + 36,
+        0,
+    );
+    show_change(b"a byte of the tag", c, half, HALF, i + 55, 0);
+}
+
+// Shorter halves.
+fn show_ends(c: Case, half: &mut [u8], i: usize)
+    requires { ⌜ (i ≤ 4) × (length (now half) ≡ 8240) ⌝ }
+    ensures { λ _. ⌜ length (now (half .exit)) ≡ 8240 ⌝ }
+{
+    show_change(b"a half that ends with it", c, half, i + 56, i, 0x40);
+    show_change(
+        b"a half that ends 4 bytes earlier",
+        c,
+        half,
+        i + 52,
+        i,
+        0x40,
+    );
+}
+
+fn show_changes(c: Case, half: &mut [u8], i: usize)
+    requires { ⌜ (i ≤ 4) × (length (now half) ≡ 8240) ⌝ }
+    ensures { λ _. ⌜ length (now (half .exit)) ≡ 8240 ⌝ }
+{
+    show_kinds(c, half, i);
+    show_values(c, half, i);
+    show_bytes(c, half, i);
+    show_ends(c, half, i);
+}
+
+// A half with a checkpoint of the longer form, changed.
+fn show_longer() {
+    let c = a_case(0, 5, 8, 4, 3, 48);
+    let mut half = [0u8; 8240];
+    stage(c, &mut half);
+    io::write_all(STDOUT_FILENO, b"the longer head\n");
+    show_change(b"as it was", c, &mut half, HALF, 0, 0x00);
+    show_change(b"packet number of kind 1", c, &mut half, HALF, 0, 0x40);
+    show_change(b"packet number of kind 2", c, &mut half, HALF, 0, 0x80);
+    show_change(b"packet number of kind 3", c, &mut half, HALF, 0, 0xC0);
+    show_change(b"packet number 6", c, &mut half, HALF, 3, 6);
+    show_changes(c, &mut half, 4);
+}
+
+// The same of the older form; the checkpoint comes from standard input.
+fn show_older() {
+    let c = a_case(0, 0, 8, 4, 3, 48);
+    let mut half = [0u8; 8240];
+    io::read_full(STDIN_FILENO, &mut half);
+    io::write_all(STDOUT_FILENO, b"the older head\n");
+    show_change(b"as it was", c, &mut half, HALF, 0, 0x40);
+    show_changes(c, &mut half, 0);
+}
+
 fn main() {
     show_all();
     show_readings();
-    show_change(b"as it was", HALF, 0, 0x40);
-    show_change(b"word 0 of kind 0", HALF, 0, 0x00);
-    show_change(b"word 0 of kind 2", HALF, 0, 0x80);
-    show_change(b"word 1 of kind 1", HALF, 4, 0x40);
-    show_change(b"word 1 of kind 3", HALF, 4, 0xC0);
-    show_change(b"word 2 of kind 0", HALF, 8, 0x00);
-    show_change(b"open part of 1026 words", HALF, 2, 0x04);
-    show_change(b"secret part of 1025 words", HALF, 6, 0x04);
-    show_change(b"9 restarts", HALF, 11, 9);
-    show_change(b"8 restarts", HALF, 11, 8);
-    show_change(b"a byte of the previous tag", HALF, 12, 0);
-    show_change(b"a byte of the open part", HALF, 28, 0);
-    show_change(b"a byte of the sealed secret part", HALF, 36, 0);
-    show_change(b"a byte of the tag", HALF, 55, 0);
-    show_change(b"a shorter open part", HALF, 3, 1);
-    show_change(b"a half of 56 bytes", 56, 0, 0x40);
-    show_change(b"a half of 52 bytes", 52, 0, 0x40);
+    show_longer();
+    show_older();
 }

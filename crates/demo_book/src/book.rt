@@ -1,4 +1,4 @@
-// Document 01's book ("Runs, cuts and the book"): what was recorded last. It is told each start, each advance, and of each cut whether it left
+// Document 01's book ("Runs, cuts and the book"; and document 02, A.2): what was recorded last. It is told each start, each advance, and of each cut whether it left
 // the place of the store blank; it never sees the memories.
 use crate::values::SLOTS;
 use crate::values::key;
@@ -10,13 +10,15 @@ use crate::values::starting_tag;
 use octets::copy;
 use octets::same;
 
-// A checkpoint: the save that its parts are of, its restarts, the number of its nonce, its tag, and its bytes in a half of the FRAM.
+// A checkpoint: the save that its parts are of, its packet number, its restarts, the number of its nonce, its tag, and its bytes in a half of
+// the FRAM.
 pub struct Entry {
     pub save: usize,
+    pub packet: u8,
     pub restarts: u8,
     pub nonce: usize,
     pub tag: [u8; 16],
-    pub bytes: [u8; 60],
+    pub bytes: [u8; 64],
 }
 
 // A checkpoint that is not recorded yet, and its stores to come in their order: an erase, words, the record, an erase.
@@ -54,21 +56,38 @@ fn put(image: &mut [u8], at: usize, bytes: &[u8]) {
 }
 
 // The head of a checkpoint with two words of open part and two of secret part, the tag before and the open part (document 01, "A half of the
-// FRAM").
-fn head(save: usize, restarts: u8, previous: [u8; 16]) -> [u8; 36] {
-    let mut bytes = [0u8; 36];
+// FRAM", with document 02's word in front).
+fn head(save: usize, packet: u8, restarts: u8, previous: [u8; 16]) -> [u8; 40] {
+    let mut bytes = [0u8; 40];
     copy(
-        &[0x40, 0, 0, 2, 0x80, 0, 0, 2, 0xC0, 0, 0, restarts],
+        &[
+            0,
+            0,
+            0,
+            packet,
+            0x40,
+            0,
+            0,
+            2,
+            0x80,
+            0,
+            0,
+            2,
+            0xC0,
+            0,
+            0,
+            restarts,
+        ],
         &mut bytes,
     );
-    put(&mut bytes, 12, &previous);
-    put(&mut bytes, 28, &open_text(save));
+    put(&mut bytes, 16, &previous);
+    put(&mut bytes, 32, &open_text(save));
     bytes
 }
 
 impl Entry {
-    fn new(save: usize, restarts: u8, number: usize, previous: [u8; 16]) -> Entry {
-        let head = head(save, restarts, previous);
+    fn new(save: usize, packet: u8, restarts: u8, number: usize, previous: [u8; 16]) -> Entry {
+        let head = head(save, packet, restarts, previous);
         let mut secret = [0u8; 8];
         let s = gcm::seal(
             &key(),
@@ -78,12 +97,13 @@ impl Entry {
             &mut secret,
         );
         let tag = s.tag;
-        let mut bytes = [0u8; 60];
+        let mut bytes = [0u8; 64];
         copy(&head, &mut bytes);
-        put(&mut bytes, 36, &secret);
-        put(&mut bytes, 44, &tag);
+        put(&mut bytes, 40, &secret);
+        put(&mut bytes, 48, &tag);
         Entry {
             save,
+            packet,
             restarts,
             nonce: number,
             tag,
@@ -133,10 +153,11 @@ impl Book {
     pub fn empty() -> Book {
         let entry = Entry {
             save: 0,
+            packet: 0,
             restarts: 0,
             nonce: 0,
             tag: starting_tag(),
-            bytes: [0u8; 60],
+            bytes: [0u8; 64],
         };
         let draft = Draft::none(entry);
         Book {
@@ -154,7 +175,7 @@ impl Book {
             entry,
             resumes,
             erase: self.owed,
-            words: 15,
+            words: 16,
             record: true,
             after: (0 < self.count) & (self.count % SLOTS == 0),
         };
@@ -162,11 +183,16 @@ impl Book {
         book
     }
 
-    // A first save or a save that did not stop.
-    pub fn saved(self, save: usize, number: usize) -> Book {
+    // A first save or a save that did not stop. A packet number above the entry's sets restarts to 0, else they carry over; the larger number
+    // is stored.
+    pub fn saved(self, save: usize, packet: u8, number: usize) -> Book {
         let entry = self.entry;
         let previous = entry.tag;
-        let next = Entry::new(save, 0, number, previous);
+        if entry.packet < packet {
+            let next = Entry::new(save, packet, 0, number, previous);
+            return self.drafted(next, false);
+        }
+        let next = Entry::new(save, entry.packet, entry.restarts, number, previous);
         self.drafted(next, false)
     }
 
@@ -175,7 +201,7 @@ impl Book {
         let entry = self.entry;
         let restarts = std::num::wrapping_add_u8(entry.restarts, 1);
         let previous = entry.tag;
-        let next = Entry::new(entry.save, restarts, number, previous);
+        let next = Entry::new(entry.save, entry.packet, restarts, number, previous);
         self.drafted(next, true)
     }
 

@@ -5,10 +5,10 @@ pub const PAGES: usize = 3;
 
 pub const SLOTS: usize = 2;
 
-// The bytes of a part, and of a checkpoint: 44 and both parts. A half of the FRAM holds just that.
+// The bytes of a part, and of a checkpoint: 48 and both parts. A half of the FRAM holds just that.
 pub const PART: usize = 8;
 
-pub const HALF: usize = 60;
+pub const HALF: usize = 64;
 
 pub fn key() -> [u8; 32] {
     let mut text = [0u8; 32];
@@ -61,6 +61,11 @@ pub fn record(nonce: [u8; 12], half: usize) -> [u8; 16] {
     bytes[12] = 0x40;
     bytes[15] = (half % 2) as u8;
     bytes
+}
+
+// The packet number that save n has last heard: its own number, but from save 42 on only repeats of packet 41.
+pub fn packet(n: usize) -> u8 {
+    if n < 42 { n as u8 } else { 41 }
 }
 
 // One more, for counters that stay far below the bound.

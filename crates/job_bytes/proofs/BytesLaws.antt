@@ -38,19 +38,20 @@ low-word n =
 -- ---- reading
 
 module _ (b : List ℕ) where
-  pub read-job : no-job-in b ≡ false → (phase : Phase) (origin : Origin) (half long page slot : ℕ) (nonce tag : List ℕ)
+  pub read-job : no-job-in b ≡ false → (phase : Phase) (origin : Origin) (half long page slot : ℕ) (nonce tag : List ℕ) (restarts packet : ℕ)
       → phase ≡ phase-of (word-at b 0) (word-at b 4) → origin ≡ origin-of (word-at b 8) → half ≡ word-at b 12 → long ≡ word-at b 16 → page ≡ word-at b 20
-      → slot ≡ word-at b 24 → nonce ≡ part b 28 nonce-length → tag ≡ part b 40 tag-length
-      → record { phase = phase; origin = origin; half = half; length = long; page = page; slot = slot; nonce = nonce; tag = tag } ≡ job-in b
+      → slot ≡ word-at b 24 → nonce ≡ part b 28 nonce-length → tag ≡ part b 40 tag-length → restarts ≡ word-at b 56 → packet ≡ word-at b 60
+      → record { phase = phase; origin = origin; half = half; length = long; page = page; slot = slot; nonce = nonce; tag = tag; restarts = restarts; packet = packet } ≡ job-in b
   unfolding job-in
-  read-job e phase origin half long page slot nonce tag p o h l g s n t =
-      rw e (λ i. record { phase = p i; origin = o i; half = h i; length = l i; page = g i; slot = s i; nonce = n i; tag = t i })
+  read-job e phase origin half long page slot nonce tag restarts packet p o h l g s n t r k =
+      rw e (λ i. record { phase = p i; origin = o i; half = h i; length = l i; page = g i; slot = s i; nonce = n i; tag = t i; restarts = r i; packet = k i })
 
-  pub read-session : length b ≡ session-length → (page slot : ℕ) (latest tag : List ℕ)
-      → page ≡ word-at b 0 → slot ≡ word-at b 4 → latest ≡ part b 8 slot-length → tag ≡ part b 24 tag-length
-      → record { page = page; slot = slot; latest = latest; tag = tag } ≡ session-in b
+  pub read-session : length b ≡ session-length → (page slot : ℕ) (latest tag : List ℕ) (restarts packet : ℕ)
+      → page ≡ word-at b 0 → slot ≡ word-at b 4 → latest ≡ part b 8 slot-length → tag ≡ part b 24 tag-length → restarts ≡ word-at b 40 → packet ≡ word-at b 44
+      → record { page = page; slot = slot; latest = latest; tag = tag; restarts = restarts; packet = packet } ≡ session-in b
   unfolding session-in
-  read-session e page slot latest tag g s r t = rw (eq-eqb (length b) session-length e) (λ i. record { page = g i; slot = s i; latest = r i; tag = t i })
+  read-session e page slot latest tag restarts packet g s n t r k =
+      rw (eq-eqb (length b) session-length e) (λ i. record { page = g i; slot = s i; latest = n i; tag = t i; restarts = r i; packet = k i })
 
   -- in the place of a job or a session that cannot be read
   pub unread : no-job-in b ≡ true → job-in b ≡ no-job
@@ -105,13 +106,17 @@ seven-words j p q r s t u v = word-on _ _ (word-on _ _ (word-on _ _ (word-on _ _
 pub words-long : (j : Job) → length (job-words j) ≡ 28
 words-long j = seven-words j {xs = []} refl refl refl refl refl refl refl .long
 
-pub written-job : (j : Job) {xs a b c : List ℕ} → length xs ≡ job-length → length (j .nonce) ≡ nonce-length → length (j .tag) ≡ tag-length
-    → Front xs a (job-words j) 28 → b ≡ put a 28 (j .nonce) → c ≡ put b 40 (j .tag) → c ≡ job-bytes j
+pub written-job : (j : Job) {xs a b c d e : List ℕ} → length xs ≡ job-length → length (j .nonce) ≡ nonce-length → length (j .tag) ≡ tag-length
+    → Front xs a (job-words j) 28 → b ≡ put a 28 (j .nonce) → c ≡ put b 40 (j .tag) → d ≡ put c 56 (word-of (j .restarts))
+    → e ≡ put d 60 (word-of (j .packet)) → e ≡ job-bytes j
 unfolding job-bytes
-written-job j l n t f e g = front-whole (front-on (j .tag) _ tag-length (front-on (j .nonce) _ nonce-length f e n) g t) l
+written-job j l n t f p q r k =
+    front-whole (word-on (j .packet) _ (word-on (j .restarts) _ (front-on (j .tag) _ tag-length (front-on (j .nonce) _ nonce-length f p n) q t) r) k) l
 
-pub written-session : (s : Session) (xs : List ℕ) {a b c d : List ℕ} → length xs ≡ session-length → length (s .latest) ≡ slot-length → length (s .tag) ≡ tag-length
-    → a ≡ put xs 0 (word-of (s .page)) → b ≡ put a 4 (word-of (s .slot)) → c ≡ put b 8 (s .latest) → d ≡ put c 24 (s .tag) → d ≡ session-bytes s
+pub written-session : (s : Session) (xs : List ℕ) {a b c d e f : List ℕ} → length xs ≡ session-length → length (s .latest) ≡ slot-length → length (s .tag) ≡ tag-length
+    → a ≡ put xs 0 (word-of (s .page)) → b ≡ put a 4 (word-of (s .slot)) → c ≡ put b 8 (s .latest) → d ≡ put c 24 (s .tag)
+    → e ≡ put d 40 (word-of (s .restarts)) → f ≡ put e 44 (word-of (s .packet)) → f ≡ session-bytes s
 unfolding session-bytes
-written-session s xs l r t p q e g =
-    front-whole (front-on (s .tag) _ tag-length (front-on (s .latest) _ slot-length (word-on (s .slot) _ (first-word (s .page) p) q) e r) g t) l
+written-session s xs l n t p q u v r k =
+    front-whole
+    (word-on (s .packet) _ (word-on (s .restarts) _ (front-on (s .tag) _ tag-length (front-on (s .latest) _ slot-length (word-on (s .slot) _ (first-word (s .page) p) q) u n) v t) r) k) l

@@ -13,7 +13,7 @@ use Rattle.octets.specs.Word.{word-at}
 use Rattle.octets.proofs.Laws.{part-append-left, part-append-right, part-whole}
 use Rattle.octets.proofs.Numbers.{length-bytes, number-ext, number-right, number-bytes}
 use Rattle.protocol.specs.Types.{Phase, EraseFirst, Words, Record, EraseAfter, Done, Origin, Save, PowerUp, Job, Session}
-use Rattle.job_bytes.specs.Bytes.{job-length, session-length, word-of, phase-number, phase-place, origin-number, job-words, job-bytes, session-bytes, phase-of, origin-of, unknown, no-job-in, job-in, session-in}
+use Rattle.job_bytes.specs.Bytes.{job-length, word-of, phase-number, phase-place, origin-number, job-words, job-bytes, session-bytes, phase-of, origin-of, unknown, no-job-in, job-in, session-in}
 use Rattle.job_bytes.proofs.BytesLaws.{words-long, read-job, read-session}
 
 -- ---- a word in a string
@@ -46,6 +46,12 @@ next s ns m n l h =
     let g = longer s m n l in
     stays (s ++ word-of n) ns m (omega (arith, g)) ∙ word-last s m n l h
 
+part-stays : (s ns : List ℕ) (i n : ℕ) → i + n ≤ length s → part (chain s ns) i n ≡ part s i n
+part-stays s [] i n h = refl
+part-stays s (m ∷ ns) i n h =
+    let l = longer s (length s) m refl in
+    part-stays (s ++ word-of m) ns i n (omega (arith, l)) ∙ part-append-left s (word-of m) i n h
+
 -- ---- jobs
 
 -- the numbers fit words, and the nonce and the tag have their lengths
@@ -57,6 +63,8 @@ pub record FitsJob (j : Job) : Type 0 where
   pub slot : j .slot < 2 ^ 32
   pub nonce : length (j .nonce) ≡ nonce-length
   pub tag : length (j .tag) ≡ tag-length
+  pub restarts : j .restarts < 2 ^ 32
+  pub packet : j .packet < 2 ^ 32
 
 phase-small : (p : Phase) → phase-number p < 2 ^ 32
 phase-small (EraseFirst q) = lit< tt
@@ -92,18 +100,29 @@ origin-back Save = refl
 origin-back PowerUp = refl
 
 module _ (j : Job) (fits : FitsJob j) where
-  -- the words of a job keep their places before the nonce and the tag
+  -- all up to the tag
+  abbrev to-tag : List ℕ
+  to-tag = job-words j ++ j .nonce ++ j .tag
+
+  abbrev last-words : List ℕ
+  last-words = j .restarts ∷ j .packet ∷ []
+
+  to-tag-long : length to-tag ≡ 56
+  to-tag-long =
+      length-append (job-words j ++ j .nonce) (j .tag) ∙ ap₂ (λ (x y : ℕ). x + y) (length-append (job-words j) (j .nonce) ∙ ap₂ (λ (x y : ℕ). x + y) (words-long j) (fits .nonce)) (fits .tag)
+
+  -- the first words of a job keep their places before the nonce and all that follows
   before-nonce : (i n : ℕ) → i + 4 ≤ 28 → word-at (job-words j) i ≡ n → word-at (job-bytes j) i ≡ n
   unfolding job-bytes
   before-nonce i n h e =
       let l = words-long j in
       let m = length-append (job-words j) (j .nonce) in
-      word-left (job-words j ++ j .nonce) (j .tag) i (omega (arith, l, m)) ∙ word-left (job-words j) (j .nonce) i (omega (arith, l)) ∙ e
+      let t = to-tag-long in
+      stays to-tag last-words i (omega (arith, t)) ∙ word-left (job-words j ++ j .nonce) (j .tag) i (omega (arith, l, m)) ∙ word-left (job-words j) (j .nonce) i (omega (arith, l)) ∙ e
 
   long-job : length (job-bytes j) ≡ job-length
   unfolding job-bytes
-  long-job =
-      length-append (job-words j ++ j .nonce) (j .tag) ∙ ap₂ (λ (x y : ℕ). x + y) (length-append (job-words j) (j .nonce) ∙ ap₂ (λ (x y : ℕ). x + y) (words-long j) (fits .nonce)) (fits .tag)
+  long-job = longer (to-tag ++ word-of (j .restarts)) 60 (j .packet) (longer to-tag 56 (j .restarts) to-tag-long)
 
   words-back : (word-at (job-words j) 0 ≡ phase-number (j .phase)) × (word-at (job-words j) 4 ≡ phase-place (j .phase)) × (word-at (job-words j) 8 ≡ origin-number (j .origin))
       × (word-at (job-words j) 12 ≡ j .half) × (word-at (job-words j) 16 ≡ j .length) × (word-at (job-words j) 20 ≡ j .page) × (word-at (job-words j) 24 ≡ j .slot)
@@ -145,7 +164,8 @@ module _ (j : Job) (fits : FitsJob j) where
       let l = words-long j in
       let m = length-append (job-words j) (j .nonce) in
       let n = fits .nonce in
-      part-append-left (job-words j ++ j .nonce) (j .tag) 28 nonce-length (omega (arith, l, m, n)) ∙ part-append-right (job-words j) (j .nonce) 28 nonce-length 0 (omega (arith, l))
+      let t = to-tag-long in
+      part-stays to-tag last-words 28 nonce-length (omega (arith, t)) ∙ part-append-left (job-words j ++ j .nonce) (j .tag) 28 nonce-length (omega (arith, l, m, n)) ∙ part-append-right (job-words j) (j .nonce) 28 nonce-length 0 (omega (arith, l))
       ∙ part-whole (j .nonce) nonce-length n
 
   tag-back : part (job-bytes j) 40 tag-length ≡ j .tag
@@ -154,17 +174,26 @@ module _ (j : Job) (fits : FitsJob j) where
       let l = words-long j in
       let m = length-append (job-words j) (j .nonce) in
       let n = fits .nonce in
-      part-append-right (job-words j ++ j .nonce) (j .tag) 40 tag-length 0 (omega (arith, l, m, n)) ∙ part-whole (j .tag) tag-length (fits .tag)
+      let t = to-tag-long in
+      part-stays to-tag last-words 40 tag-length (omega (arith, t)) ∙ part-append-right (job-words j ++ j .nonce) (j .tag) 40 tag-length 0 (omega (arith, l, m, n)) ∙ part-whole (j .tag) tag-length (fits .tag)
+
+  restarts-back : word-at (job-bytes j) 56 ≡ j .restarts
+  unfolding job-bytes
+  restarts-back = next to-tag (j .packet ∷ []) 56 (j .restarts) to-tag-long (fits .restarts)
+
+  packet-back : word-at (job-bytes j) 60 ≡ j .packet
+  unfolding job-bytes
+  packet-back = next (to-tag ++ word-of (j .restarts)) [] 60 (j .packet) (longer to-tag 56 (j .restarts) to-tag-long) (fits .packet)
 
   -- the bytes of a job are read as that job
   pub job-back : job-in (job-bytes j) ≡ j
   job-back =
       let w = words-back in
-      sym (read-job (job-bytes j) readable (j .phase) (j .origin) (j .half) (j .length) (j .page) (j .slot) (j .nonce) (j .tag)
+      sym (read-job (job-bytes j) readable (j .phase) (j .origin) (j .half) (j .length) (j .page) (j .slot) (j .nonce) (j .tag) (j .restarts) (j .packet)
       (sym (ap₂ phase-of (before-nonce 0 _ (lit≤ tt) (w .0)) (before-nonce 4 _ (lit≤ tt) (w .1)) ∙ phase-back (j .phase)))
       (sym (ap origin-of (before-nonce 8 _ (lit≤ tt) (w .2)) ∙ origin-back (j .origin)))
       (sym (before-nonce 12 _ (lit≤ tt) (w .3))) (sym (before-nonce 16 _ (lit≤ tt) (w .4))) (sym (before-nonce 20 _ (lit≤ tt) (w .5)))
-      (sym (before-nonce 24 _ (lit≤ tt) (w .6))) (sym nonce-back) (sym tag-back))
+      (sym (before-nonce 24 _ (lit≤ tt) (w .6))) (sym nonce-back) (sym tag-back) (sym restarts-back) (sym packet-back))
 
 -- ---- sessions
 
@@ -173,6 +202,8 @@ pub record FitsSession (s : Session) : Type 0 where
   pub slot : s .slot < 2 ^ 32
   pub latest : length (s .latest) ≡ slot-length
   pub tag : length (s .tag) ≡ tag-length
+  pub restarts : s .restarts < 2 ^ 32
+  pub packet : s .packet < 2 ^ 32
 
 -- the bytes of a session are read as that session
 pub session-back : (s : Session) → FitsSession s → session-in (session-bytes s) ≡ s
@@ -183,10 +214,15 @@ session-back s fits =
     let three = two ++ s .latest in
     let l1 = length-bytes 4 (s .page) in
     let l2 = longer one 4 (s .slot) l1 in
+    let four = three ++ s .tag in
+    let five = four ++ word-of (s .restarts) in
+    let last = s .restarts ∷ s .packet ∷ [] in
     let l3 : length three ≡ 24 = length-append two (s .latest) ∙ ap₂ (λ (x y : ℕ). x + y) l2 (fits .latest) in
-    let long : length (three ++ s .tag) ≡ session-length = length-append three (s .tag) ∙ ap₂ (λ (x y : ℕ). x + y) l3 (fits .tag) in
-    sym (read-session (three ++ s .tag) long (s .page) (s .slot) (s .latest) (s .tag)
-    (sym (word-left three (s .tag) 0 (omega (arith, l3)) ∙ word-left two (s .latest) 0 (omega (arith, l2)) ∙ stays one (s .slot ∷ []) 0 (omega (arith, l1)) ∙ number-bytes 4 (s .page) (fits .page)))
-    (sym (word-left three (s .tag) 4 (omega (arith, l3)) ∙ word-left two (s .latest) 4 (omega (arith, l2)) ∙ next one [] 4 (s .slot) l1 (fits .slot)))
-    (sym (part-append-left three (s .tag) 8 slot-length (omega (arith, l3)) ∙ part-append-right two (s .latest) 8 slot-length 0 (omega (arith, l2)) ∙ part-whole (s .latest) slot-length (fits .latest)))
-    (sym (part-append-right three (s .tag) 24 tag-length 0 (omega (arith, l3)) ∙ part-whole (s .tag) tag-length (fits .tag))))
+    let l4 : length four ≡ 40 = length-append three (s .tag) ∙ ap₂ (λ (x y : ℕ). x + y) l3 (fits .tag) in
+    let l5 = longer four 40 (s .restarts) l4 in
+    sym (read-session (chain four last) (longer five 44 (s .packet) l5) (s .page) (s .slot) (s .latest) (s .tag) (s .restarts) (s .packet)
+    (sym (stays four last 0 (omega (arith, l4)) ∙ word-left three (s .tag) 0 (omega (arith, l3)) ∙ word-left two (s .latest) 0 (omega (arith, l2)) ∙ stays one (s .slot ∷ []) 0 (omega (arith, l1)) ∙ number-bytes 4 (s .page) (fits .page)))
+    (sym (stays four last 4 (omega (arith, l4)) ∙ word-left three (s .tag) 4 (omega (arith, l3)) ∙ word-left two (s .latest) 4 (omega (arith, l2)) ∙ next one [] 4 (s .slot) l1 (fits .slot)))
+    (sym (part-stays four last 8 slot-length (omega (arith, l4)) ∙ part-append-left three (s .tag) 8 slot-length (omega (arith, l3)) ∙ part-append-right two (s .latest) 8 slot-length 0 (omega (arith, l2)) ∙ part-whole (s .latest) slot-length (fits .latest)))
+    (sym (part-stays four last 24 tag-length (omega (arith, l4)) ∙ part-append-right three (s .tag) 24 tag-length 0 (omega (arith, l3)) ∙ part-whole (s .tag) tag-length (fits .tag)))
+    (sym (next four (s .packet ∷ []) 40 (s .restarts) l4 (fits .restarts))) (sym (next five [] 44 (s .packet) l5 (fits .packet))))

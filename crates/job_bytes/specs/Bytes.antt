@@ -1,4 +1,4 @@
--- Jobs and sessions as bytes (hosts/c/keeper.h): words of four bytes, the most significant first, then the nonce, record or tag.
+-- Jobs and sessions as bytes (hosts/c/keeper.h): words of four bytes, the most significant first, then the nonce or record and the tag, then the words of the restarts and the packet number.
 use Prim.Native.Nat.{ℕ}
 use mathlib.Core.Bool.{Bool, not, cond, _||_}
 use mathlib.Core.List.{List, _++_}
@@ -11,10 +11,10 @@ use Rattle.protocol.specs.Types.{Phase, EraseFirst, Words, Record, EraseAfter, 
 use Rattle.protocol.specs.Operations.{no-job, no-session}
 
 abbrev pub job-length : ℕ
-job-length = 56
+job-length = 64
 
 abbrev pub session-length : ℕ
-session-length = 40
+session-length = 48
 
 -- ---- written
 
@@ -41,16 +41,17 @@ abbrev pub origin-number : Origin → ℕ
 origin-number Save = 1
 origin-number PowerUp = 2
 
+-- those before the nonce
 unfoldable pub job-words : Job → List ℕ
 job-words j =
     word-of (phase-number (j .phase)) ++ word-of (phase-place (j .phase)) ++ word-of (origin-number (j .origin)) ++ word-of (j .half)
     ++ word-of (j .length) ++ word-of (j .page) ++ word-of (j .slot)
 
 unfoldable pub job-bytes : Job → List ℕ
-job-bytes j = job-words j ++ j .nonce ++ j .tag
+job-bytes j = job-words j ++ j .nonce ++ j .tag ++ word-of (j .restarts) ++ word-of (j .packet)
 
 unfoldable pub session-bytes : Session → List ℕ
-session-bytes s = word-of (s .page) ++ word-of (s .slot) ++ s .latest ++ s .tag
+session-bytes s = word-of (s .page) ++ word-of (s .slot) ++ s .latest ++ s .tag ++ word-of (s .restarts) ++ word-of (s .packet)
 
 -- ---- read
 
@@ -80,6 +81,8 @@ job-in b = cond (no-job-in b) no-job record {
   slot = word-at b 24;
   nonce = part b 28 nonce-length;
   tag = part b 40 tag-length;
+  restarts = word-at b 56;
+  packet = word-at b 60;
 }
 
 -- in the place of a session of another length stands the one that is no unit's, which gives 8 in its place in the order (keeper_c/proofs/InPlace.antt)
@@ -89,4 +92,6 @@ session-in b = cond (not (eqb (length b) session-length)) no-session record {
   slot = word-at b 4;
   latest = part b 8 slot-length;
   tag = part b 24 tag-length;
+  restarts = word-at b 40;
+  packet = word-at b 44;
 }

@@ -22,9 +22,9 @@ ghost use Rattle.octets.specs.Word.{word-at};
 ghost use Rattle.jobs.specs.View.{view-phase, view-origin, view-job, view-session};
 ghost use Rattle.job_bytes.specs.Bytes.{job-length, session-length, word-of, phase-number, phase-place, origin-number, job-words, job-bytes, session-bytes, phase-of, origin-of, no-job-in, job-in, session-in};
 
-pub const JOB_LENGTH: usize = 56;
+pub const JOB_LENGTH: usize = 64;
 
-pub const SESSION_LENGTH: usize = 40;
+pub const SESSION_LENGTH: usize = 48;
 
 // ---- reading
 
@@ -105,6 +105,8 @@ pub fn job_in(bytes: &[u8]) -> Job
         slot: number_at(bytes, 24),
         nonce: nonce_at(bytes, 28),
         tag: sixteen_at(bytes, 40),
+        restarts: number_at(bytes, 56),
+        packet: number_at(bytes, 60),
     }
 }
 
@@ -120,6 +122,8 @@ pub fn session_in(bytes: &[u8]) -> Session
         slot: number_at(bytes, 4),
         latest: sixteen_at(bytes, 8),
         tag: sixteen_at(bytes, 24),
+        restarts: number_at(bytes, 40),
+        packet: number_at(bytes, 44),
     }
 }
 
@@ -167,7 +171,7 @@ fn origin_number(origin: Origin) -> usize
     }
 }
 
-// The words of a job.
+// The words of a job before its nonce.
 fn put_job_words(bytes: &mut [u8], job: Job)
     requires { ⌜ length (now bytes) ≡ job-length ⌝ }
     ensures { λ _. ⌜ now (bytes .exit) ≡ put (now (bytes .entry)) 0 (job-words (view-job job)) ⌝ }
@@ -193,6 +197,8 @@ pub fn put_job(bytes: &mut [u8], job: Job)
     put_job_words(bytes, job);
     copy_at(&nonce, bytes, 28);
     copy_at(&tag, bytes, 40);
+    put_word(bytes, 56, job.restarts);
+    put_word(bytes, 60, job.packet);
 }
 
 // Writes a session.
@@ -206,4 +212,6 @@ pub fn put_session(bytes: &mut [u8], session: Session)
     put_word(bytes, 4, session.slot);
     copy_at(&latest, bytes, 8);
     copy_at(&tag, bytes, 24);
+    put_word(bytes, 40, session.restarts);
+    put_word(bytes, 44, session.packet);
 }

@@ -14,7 +14,7 @@ use Rattle.stops.proofs.Laws.{passes, neither, tried, first-append}
 use Rattle.ring.specs.Ring.{ring-wrong}
 use Rattle.ring.proofs.SizeLaws.{sized, page-ends, slot-ends}
 use Rattle.checkpoint.specs.Fram.{fram-wrong, half-length}
-use Rattle.checkpoint.specs.Checkpoint.{empty-length}
+use Rattle.checkpoint.specs.Checkpoint.{Longer, empty-length}
 use Rattle.checkpoint.proofs.FramLaws.{half-within}
 use Rattle.memories.specs.Stages.{of-memories}
 use Rattle.protocol.specs.Types.{Phase, EraseFirst, Words, EraseAfter, Job}
@@ -32,12 +32,12 @@ words-left n w e = go (leb (n / 4) w) refl
 -- the tests of stop 14 on a job's numbers, whatever its phase
 abbrev pub numbers-wrong : Job → Sizes → List ℕ → Bool
 numbers-wrong j z fram =
-    not (eqb (j .length % 4) 0) || ltb (j .length) empty-length || ltb (half-length fram) (j .length) ||
+    not (eqb (j .length % 4) 0) || ltb (j .length) (empty-length Longer) || ltb (half-length fram) (j .length) ||
     leb (z .pages) (j .page) || leb (z .slots) (j .slot) || ltb 1 (j .half)
 
 pub record Placed (j : Job) (z : Sizes) (fram : List ℕ) : Type 0 where
   pub words : j .length % 4 ≡ 0
-  pub long : empty-length ≤ j .length
+  pub long : empty-length Longer ≤ j .length
   pub fits : j .length ≤ half-length fram
   pub page : j .page < z .pages
   pub slot : j .slot < z .slots
@@ -52,7 +52,7 @@ placed j z fram e =
     let long = neither _ _ (fits .0) in
     record {
       words = eqb-true (j .length % 4) 0 (not-false _ (long .0));
-      long = ltb-false (j .length) empty-length (long .1);
+      long = ltb-false (j .length) (empty-length Longer) (long .1);
       fits = ltb-false (half-length fram) (j .length) (fits .1);
       page = leb-false (z .pages) (j .page) (page .1);
       slot = leb-false (z .slots) (j .slot) (slot .1);
@@ -66,7 +66,7 @@ pub record Ready (j : Job) (z : Sizes) (ring fram staging : List ℕ) : Type 0 w
   pub numbers : Placed j z fram
   pub phase-right : phase-wrong (j .phase) j z ring ≡ false
 
-pub ready : (ring fram : List ℕ) (a : Advances) → advance-stop ring fram a ≡ none → Ready (a .job) (a .sizes) ring fram (a .staging)
+pub ready : (ring fram : List ℕ) (a : Advances) → advance-stop Longer ring fram a ≡ none → Ready (a .job) (a .sizes) ring fram (a .staging)
 unfolding advance-stop job-wrong staging-wrong
 ready ring fram a e =
     let p = passes _ e in
@@ -112,13 +112,13 @@ module _ (ring fram : List ℕ) (a : Advances) where
   memory-lines = of-memories (a .sizes .pages) (a .sizes .slots) ring fram
 
   abbrev job-lines : List (ℕ × Bool)
-  job-lines = (4, staging-wrong (a .staging) fram) ∷ (14, job-wrong (a .job) (a .sizes) ring fram) ∷ []
+  job-lines = (4, staging-wrong (a .staging) fram) ∷ (14, job-wrong Longer (a .job) (a .sizes) ring fram) ∷ []
 
-  pub memories-stop : (s : ℕ) → first-of memory-lines ≡ some s → advance-stop ring fram a ≡ some s
+  pub memories-stop : (s : ℕ) → first-of memory-lines ≡ some s → advance-stop Longer ring fram a ≡ some s
   unfolding advance-stop tried
   memories-stop s e = first-append memory-lines job-lines e
 
-  pub memories-pass : first-of memory-lines ≡ none → advance-stop ring fram a ≡ then-stop (then-stop none 4 (staging-wrong (a .staging) fram)) 14 (job-wrong (a .job) (a .sizes) ring fram)
+  pub memories-pass : first-of memory-lines ≡ none → advance-stop Longer ring fram a ≡ then-stop (then-stop none 4 (staging-wrong (a .staging) fram)) 14 (job-wrong Longer (a .job) (a .sizes) ring fram)
   unfolding advance-stop tried
   memories-pass e = first-append memory-lines job-lines e
 

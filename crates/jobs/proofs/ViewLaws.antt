@@ -56,10 +56,12 @@ job-one x y e = λ i. record {
   slot = e i .slot;
   nonce = e i .nonce;
   tag = e i .tag;
+  restarts = e i .restarts;
+  packet = e i .packet;
 }
 
 pub session-one : (x y : Session) → view-session x ≡ view-session y → x ≡ y
-session-one x y e = λ i. record { page = e i .page; slot = e i .slot; latest = e i .latest; tag = e i .tag }
+session-one x y e = λ i. record { page = e i .page; slot = e i .slot; latest = e i .latest; tag = e i .tag; restarts = e i .restarts; packet = e i .packet }
 
 -- ---- answers
 

@@ -43,10 +43,12 @@ view-job j = record {
   slot = j .slot;
   nonce = j .nonce;
   tag = j .tag;
+  restarts = j .restarts;
+  packet = j .packet;
 }
 
 abbrev pub view-session : Session → types.Session
-view-session s = record { page = s .page; slot = s .slot; latest = s .latest; tag = s .tag }
+view-session s = record { page = s .page; slot = s .slot; latest = s .latest; tag = s .tag; restarts = s .restarts; packet = s .packet }
 
 -- ---- answers, with what the lent buffers then hold
 
@@ -76,8 +78,8 @@ view-started a staging = record { answer = view-start (a .start); job = view-job
 abbrev pub advances : ℕ → ℕ → Job → List ℕ → calls.Advances
 advances pages slots job staging = record { sizes = calls.sizes pages slots; job = view-job job; staging = staging }
 
-abbrev pub save-arguments : ℕ → ℕ → List ℕ → List ℕ → List ℕ → List ℕ → List ℕ → calls.SaveArguments
-save-arguments pages slots key nonce open-part secret staging = record { sizes = calls.sizes pages slots; key = key; nonce = nonce; open-part = open-part; secret = secret; staging = staging }
+abbrev pub save-arguments : ℕ → ℕ → List ℕ → List ℕ → ℕ → List ℕ → List ℕ → List ℕ → calls.SaveArguments
+save-arguments pages slots key nonce packet open-part secret staging = record { sizes = calls.sizes pages slots; key = key; nonce = nonce; packet = packet; open-part = open-part; secret = secret; staging = staging }
 
 abbrev pub first-saves : calls.SaveArguments → List ℕ → calls.FirstSave
 first-saves a starting-tag = record { arguments = a; starting-tag = starting-tag }

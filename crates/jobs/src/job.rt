@@ -27,6 +27,8 @@ pub fn no_job() -> Job
         slot: 0,
         nonce: [0u8; NONCE_LENGTH],
         tag: [0u8; TAG_LENGTH],
+        restarts: 0,
+        packet: 0,
     }
 }
 
@@ -39,6 +41,8 @@ pub fn no_session() -> Session
         slot: 0,
         latest: [0u8; SLOT_LENGTH],
         tag: [0u8; TAG_LENGTH],
+        restarts: 0,
+        packet: 0,
     }
 }
 
@@ -58,6 +62,8 @@ impl Job {
             slot: self.slot,
             nonce,
             tag,
+            restarts: self.restarts,
+            packet: self.packet,
         }
     }
 
@@ -82,6 +88,8 @@ impl Job {
             slot: self.slot,
             latest,
             tag,
+            restarts: self.restarts,
+            packet: self.packet,
         }
     }
 }

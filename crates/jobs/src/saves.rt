@@ -1,4 +1,5 @@
-// First save and save (document 01, "What the unit calls"): a checkpoint sealed into staging, and the job that stores it.
+// First save and save (document 01, "What the unit calls", and document 02, A.2): a checkpoint sealed into staging, and
+// the job that stores it.
 use crate::job::no_job;
 use crate::types::Job;
 use crate::types::Origin;
@@ -14,6 +15,8 @@ use gcm::nonce_wrong;
 use gcm::tag_wrong;
 use memories::check_memories;
 use octets::blank;
+use octets::limits::PACKET_LIMIT;
+use octets::limits::RESTART_LIMIT;
 use octets::twelve;
 use ring::Newest;
 use ring::half_named;
@@ -28,21 +31,21 @@ ghost use mathlib.Core.Option.{none};
 ghost use mathlib.Core.List.{List, []};
 ghost use Prim.Native.Nat.{ℕ, _≤_};
 ghost use lib.ListN.{length};
-ghost use Rattle.octets.specs.Limits.{key-length, nonce-length, part-limit, tag-length};
+ghost use Rattle.octets.specs.Limits.{key-length, nonce-length, part-limit, restart-limit, packet-limit, tag-length};
 ghost use Rattle.stops.specs.Stops.{first-of};
 ghost use Rattle.stops.specs.View.{check-number, stop-number};
 ghost use Rattle.ring.specs.Ring.{ring-wrong, Within};
 ghost use Rattle.ring.specs.View.{newest};
-ghost use Rattle.checkpoint.specs.Checkpoint.{sealed-length};
+ghost use Rattle.checkpoint.specs.Checkpoint.{Longer, sealed-length};
 ghost use Rattle.checkpoint.specs.Prepared.{checkpoint-of};
 ghost use Rattle.protocol.specs.Types.{Words, Save};
-ghost use Rattle.protocol.specs.Operations.{begin, job-of, parts-wrong, first-save-stop, first-save, save-stop, save};
+ghost use Rattle.protocol.specs.Operations.{begin, job-of, parts-wrong, session-wrong, save-restarts, larger, first-save-stop, first-save, save-stop, save};
 ghost use Rattle.jobs.specs.View.{view-session, view-started, save-arguments, first-saves, saves};
 ghost use Rattle.jobs.specs.Stages.{save-buffers, save-ring, stopped};
 
 // Stop 4 of both parts.
 fn parts_wrong(open: &[u8], secret: &[u8], fram: &[u8]) -> bool
-    ensures { λ r. ⌜ r ≡ parts-wrong (now («open» .entry)) (now (secret .entry)) (now (fram .entry)) ⌝ }
+    ensures { λ r. ⌜ r ≡ parts-wrong Longer (now («open» .entry)) (now (secret .entry)) (now (fram .entry)) ⌝ }
 {
     if part_wrong(open) | part_wrong(secret) {
         return true;
@@ -65,6 +68,8 @@ fn not_begun(stop: Stop) -> Started
 fn begin_save(
     key: &[u8],
     nonce: &[u8],
+    packet: usize,
+    restarts: usize,
     previous: &[u8],
     open: &[u8],
     secret: &[u8],
@@ -73,10 +78,19 @@ fn begin_save(
     page: usize,
     slot: usize,
 ) -> Started
-    requires { ⌜ (length (now key) ≡ key-length) × (length (now nonce) ≡ nonce-length) × (length (now previous) ≡ tag-length) × (length (now «open») ≤ part-limit) × (length (now secret) ≤ part-limit) × (sealed-length (length (now «open»)) (length (now secret)) ≤ length (now staging)) ⌝ }
-    ensures { λ r. ⌜ view-started r (now (staging .exit)) ≡ begin none (now (key .entry)) (checkpoint-of (now («open» .entry)) (now (secret .entry)) 0 (now (previous .entry)) (now (nonce .entry))) (job-of (now (key .entry)) (checkpoint-of (now («open» .entry)) (now (secret .entry)) 0 (now (previous .entry)) (now (nonce .entry))) (Words 0) Save half page slot) (now (staging .entry)) [] [] ⌝ }
+    requires { ⌜ (length (now key) ≡ key-length) × (length (now nonce) ≡ nonce-length) × (packet ≤ packet-limit) × (restarts ≤ restart-limit) × (length (now previous) ≡ tag-length) × (length (now «open») ≤ part-limit) × (length (now secret) ≤ part-limit) × (sealed-length Longer (length (now «open»)) (length (now secret)) ≤ length (now staging)) ⌝ }
+    ensures { λ r. ⌜ view-started r (now (staging .exit)) ≡ begin none (now (key .entry)) (checkpoint-of packet (now («open» .entry)) (now (secret .entry)) restarts (now (previous .entry)) (now (nonce .entry))) (job-of (now (key .entry)) (checkpoint-of packet (now («open» .entry)) (now (secret .entry)) restarts (now (previous .entry)) (now (nonce .entry))) (Words 0) Save half page slot) (now (staging .entry)) [] [] ⌝ }
 {
-    let tag = seal_under(key, nonce, 0, previous, open, secret, staging);
+    let tag = seal_under(
+        key,
+        nonce,
+        packet,
+        restarts,
+        previous,
+        open,
+        secret,
+        staging,
+    );
     let phase = Phase::Words(0);
     let origin = Origin::Save;
     let job = Job {
@@ -88,6 +102,8 @@ fn begin_save(
         slot,
         nonce: twelve(nonce),
         tag,
+        restarts,
+        packet,
     };
     Started {
         start: Start::Begun,
@@ -95,7 +111,7 @@ fn begin_save(
     }
 }
 
-// Stops 1 to 4 of save.
+// Stops 1 to 4 and 18 of save.
 fn check_save_buffers(
     pages: usize,
     slots: usize,
@@ -103,20 +119,22 @@ fn check_save_buffers(
     fram: &[u8],
     key: &[u8],
     nonce: &[u8],
+    packet: usize,
     open: &[u8],
     secret: &[u8],
     staging: &[u8],
 ) -> Check
-    ensures { λ r. ⌜ check-number r ≡ first-of (save-buffers (now (ring .entry)) (now (fram .entry)) (save-arguments pages slots (now (key .entry)) (now (nonce .entry)) (now («open» .entry)) (now (secret .entry)) (now (staging .entry)))) ⌝ }
+    ensures { λ r. ⌜ check-number r ≡ first-of (save-buffers (now (ring .entry)) (now (fram .entry)) (save-arguments pages slots (now (key .entry)) (now (nonce .entry)) packet (now («open» .entry)) (now (secret .entry)) (now (staging .entry)))) ⌝ }
 {
     let lengths = key_wrong(key.len()) | nonce_wrong(nonce.len());
     let buffers = parts_wrong(open, secret, fram) | (staging.len() < fram.len() / 2);
     check_memories(ring, pages, slots, fram)
         .stop_if(lengths, Stop::KeyNonceTagSize)
         .stop_if(buffers, Stop::BufferSize)
+        .stop_if(PACKET_LIMIT < packet, Stop::PacketTooLarge)
 }
 
-// Whether a first save would stop, by 1 to 5. Nothing is stored.
+// Whether a first save would stop, by 1 to 5 or 18. Nothing is stored.
 pub fn first_save_check(
     pages: usize,
     slots: usize,
@@ -125,21 +143,23 @@ pub fn first_save_check(
     key: &[u8],
     nonce: &[u8],
     starting_tag: &[u8],
+    packet: usize,
     open: &[u8],
     secret: &[u8],
     staging: &[u8],
 ) -> Check
-    ensures { λ r. ⌜ check-number r ≡ first-save-stop (now (ring .entry)) (now (fram .entry)) (first-saves (save-arguments pages slots (now (key .entry)) (now (nonce .entry)) (now («open» .entry)) (now (secret .entry)) (now (staging .entry))) (now («starting_tag» .entry))) ⌝ }
+    ensures { λ r. ⌜ check-number r ≡ first-save-stop Longer (now (ring .entry)) (now (fram .entry)) (first-saves (save-arguments pages slots (now (key .entry)) (now (nonce .entry)) packet (now («open» .entry)) (now (secret .entry)) (now (staging .entry))) (now («starting_tag» .entry))) ⌝ }
 {
     let lengths = key_wrong(key.len()) | nonce_wrong(nonce.len()) | tag_wrong(starting_tag.len());
     let buffers = parts_wrong(open, secret, fram) | (staging.len() < fram.len() / 2);
     check_memories(ring, pages, slots, fram)
         .stop_if(lengths, Stop::KeyNonceTagSize)
         .stop_if(buffers, Stop::BufferSize)
+        .stop_if(PACKET_LIMIT < packet, Stop::PacketTooLarge)
         .stop_if(!blank(ring), Stop::RingInUse)
 }
 
-// Seals the unit's first checkpoint into staging and answers the job that stores it, or stops with 1 to 5.
+// Seals the unit's first checkpoint into staging and answers the job that stores it, or stops with 1 to 5 or 18.
 pub fn first_save(
     pages: usize,
     slots: usize,
@@ -148,11 +168,12 @@ pub fn first_save(
     key: &[u8],
     nonce: &[u8],
     starting_tag: &[u8],
+    packet: usize,
     open: &[u8],
     secret: &[u8],
     staging: &mut [u8],
 ) -> Started
-    ensures { λ r. ⌜ view-started r (now (staging .exit)) ≡ first-save (now (ring .entry)) (now (fram .entry)) (first-saves (save-arguments pages slots (now (key .entry)) (now (nonce .entry)) (now («open» .entry)) (now (secret .entry)) (now (staging .entry))) (now («starting_tag» .entry))) ⌝ }
+    ensures { λ r. ⌜ view-started r (now (staging .exit)) ≡ first-save Longer (now (ring .entry)) (now (fram .entry)) (first-saves (save-arguments pages slots (now (key .entry)) (now (nonce .entry)) packet (now («open» .entry)) (now (secret .entry)) (now (staging .entry))) (now («starting_tag» .entry))) ⌝ }
 {
     let check = first_save_check(
         pages,
@@ -162,13 +183,29 @@ pub fn first_save(
         key,
         nonce,
         starting_tag,
+        packet,
         open,
         secret,
         staging,
     );
     match check {
         Check::Stopped(stop) => not_begun(stop),
-        Check::Pass => begin_save(key, nonce, starting_tag, open, secret, staging, 0, 0, 0),
+        Check::Pass => {
+            let half = 0;
+            begin_save(
+                key,
+                nonce,
+                packet,
+                0,
+                starting_tag,
+                open,
+                secret,
+                staging,
+                half,
+                0,
+                0,
+            )
+        }
     }
 }
 
@@ -185,7 +222,7 @@ fn check_save_ring(
     ensures { λ r. ⌜ check-number r ≡ first-of (save-ring (now (ring .entry)) slots (newest found) (view-session session) (now (nonce .entry))) ⌝ }
 {
     let latest = session.latest;
-    let stale = not_newest(
+    let older = not_newest(
         ring,
         pages,
         slots,
@@ -194,6 +231,7 @@ fn check_save_ring(
         session.slot,
         &latest,
     );
+    let stale = older | session.out_of_range();
     let used = nonce_used(ring, pages, slots, found, nonce);
     Check::Pass
         .stop_if(found.is_blank(), Stop::RingBlank)
@@ -203,7 +241,21 @@ fn check_save_ring(
         .stop_if(used, Stop::NonceUsed)
 }
 
-// Where stops 1 to 4 do not apply.
+// A packet number above the session's sets the restarts to 0; otherwise they carry over.
+fn save_restarts(heard: usize, known: usize, restarts: usize) -> usize
+    ensures { λ r. ⌜ r ≡ save-restarts Longer heard known restarts ⌝ }
+{
+    if known < heard { 0 } else { restarts }
+}
+
+// The larger of two packet numbers.
+fn larger(a: usize, b: usize) -> usize
+    ensures { λ r. ⌜ r ≡ larger a b ⌝ }
+{
+    if a < b { b } else { a }
+}
+
+// Where stops 1 to 4 and 18 do not apply.
 fn save_on(
     session: Session,
     pages: usize,
@@ -212,12 +264,13 @@ fn save_on(
     fram: &[u8],
     key: &[u8],
     nonce: &[u8],
+    packet: usize,
     open: &[u8],
     secret: &[u8],
     staging: &mut [u8],
 ) -> Started
-    requires { ⌜ first-of (save-buffers (now ring) (now fram) (save-arguments pages slots (now key) (now nonce) (now «open») (now secret) (now staging))) ≡ none ⌝ }
-    ensures { λ r. ⌜ view-started r (now (staging .exit)) ≡ save (now (ring .entry)) (now (fram .entry)) (saves (save-arguments pages slots (now (key .entry)) (now (nonce .entry)) (now («open» .entry)) (now (secret .entry)) (now (staging .entry))) session) ⌝ }
+    requires { ⌜ first-of (save-buffers (now ring) (now fram) (save-arguments pages slots (now key) (now nonce) packet (now «open») (now secret) (now staging))) ≡ none ⌝ }
+    ensures { λ r. ⌜ view-started r (now (staging .exit)) ≡ save Longer (now (ring .entry)) (now (fram .entry)) (saves (save-arguments pages slots (now (key .entry)) (now (nonce .entry)) packet (now («open» .entry)) (now (secret .entry)) (now (staging .entry))) session) ⌝ }
 {
     let newest = read_ring(ring, pages, slots);
     let check = check_save_ring(session, pages, slots, ring, newest, nonce);
@@ -228,13 +281,34 @@ fn save_on(
             let page = newest.target_page(pages, slots);
             let slot = newest.target_slot(slots);
             let tag = session.tag;
-            begin_save(key, nonce, &tag, open, secret, staging, half, page, slot)
+            let restarts = save_restarts(packet, session.packet, session.restarts);
+            let number = larger(session.packet, packet);
+            begin_save(
+                key,
+                nonce,
+                number,
+                restarts,
+                &tag,
+                open,
+                secret,
+                staging,
+                half,
+                page,
+                slot,
+            )
         }
     }
 }
 
 impl Session {
-    // Whether a save would stop, by 1 to 4 or 6 to 10. Nothing is stored.
+    // Stop 8 of the restarts and the packet number.
+    fn out_of_range(self) -> bool
+        ensures { λ r. ⌜ r ≡ session-wrong Longer (view-session self) ⌝ }
+    {
+        (RESTART_LIMIT < self.restarts) | (PACKET_LIMIT < self.packet)
+    }
+
+    // Whether a save would stop, by 1 to 4, 6 to 10 or 18. Nothing is stored.
     pub fn save_check(
         self,
         pages: usize,
@@ -243,13 +317,25 @@ impl Session {
         fram: &[u8],
         key: &[u8],
         nonce: &[u8],
+        packet: usize,
         open: &[u8],
         secret: &[u8],
         staging: &[u8],
     ) -> Check
-        ensures { λ r. ⌜ check-number r ≡ save-stop (now (ring .entry)) (now (fram .entry)) (saves (save-arguments pages slots (now (key .entry)) (now (nonce .entry)) (now («open» .entry)) (now (secret .entry)) (now (staging .entry))) self) ⌝ }
+        ensures { λ r. ⌜ check-number r ≡ save-stop Longer (now (ring .entry)) (now (fram .entry)) (saves (save-arguments pages slots (now (key .entry)) (now (nonce .entry)) packet (now («open» .entry)) (now (secret .entry)) (now (staging .entry))) self) ⌝ }
     {
-        let check = check_save_buffers(pages, slots, ring, fram, key, nonce, open, secret, staging);
+        let check = check_save_buffers(
+            pages,
+            slots,
+            ring,
+            fram,
+            key,
+            nonce,
+            packet,
+            open,
+            secret,
+            staging,
+        );
         match check {
             Check::Stopped(stop) => Check::Stopped(stop),
             Check::Pass => {
@@ -259,7 +345,7 @@ impl Session {
         }
     }
 
-    // Seals the next checkpoint into staging and answers the job that stores it, or stops with 1 to 4 or 6 to 10.
+    // Seals the next checkpoint into staging and answers the job that stores it, or stops with 1 to 4, 6 to 10 or 18.
     pub fn save(
         self,
         pages: usize,
@@ -268,13 +354,25 @@ impl Session {
         fram: &[u8],
         key: &[u8],
         nonce: &[u8],
+        packet: usize,
         open: &[u8],
         secret: &[u8],
         staging: &mut [u8],
     ) -> Started
-        ensures { λ r. ⌜ view-started r (now (staging .exit)) ≡ save (now (ring .entry)) (now (fram .entry)) (saves (save-arguments pages slots (now (key .entry)) (now (nonce .entry)) (now («open» .entry)) (now (secret .entry)) (now (staging .entry))) self) ⌝ }
+        ensures { λ r. ⌜ view-started r (now (staging .exit)) ≡ save Longer (now (ring .entry)) (now (fram .entry)) (saves (save-arguments pages slots (now (key .entry)) (now (nonce .entry)) packet (now («open» .entry)) (now (secret .entry)) (now (staging .entry))) self) ⌝ }
     {
-        let check = check_save_buffers(pages, slots, ring, fram, key, nonce, open, secret, staging);
+        let check = check_save_buffers(
+            pages,
+            slots,
+            ring,
+            fram,
+            key,
+            nonce,
+            packet,
+            open,
+            secret,
+            staging,
+        );
         match check {
             Check::Stopped(stop) => not_begun(stop),
             Check::Pass => save_on(
@@ -285,6 +383,7 @@ impl Session {
                 fram,
                 key,
                 nonce,
+                packet,
                 open,
                 secret,
                 staging,

@@ -20,7 +20,7 @@ pub enum Origin {
 }
 
 // A checkpoint on its way into the memories. Half 0 is A and half 1 is B; `length` is the checkpoint's in bytes; page and
-// slot are the record's target; the tag is the checkpoint's own.
+// slot are the record's target; tag, restarts and packet number are the checkpoint's own.
 pub struct Job {
     pub phase: Phase,
     pub origin: Origin,
@@ -30,14 +30,18 @@ pub struct Job {
     pub slot: usize,
     pub nonce: [u8; NONCE_LENGTH],
     pub tag: [u8; TAG_LENGTH],
+    pub restarts: usize,
+    pub packet: usize,
 }
 
-// The newest record and where it stands, and its checkpoint's tag.
+// The newest record and where it stands, and its checkpoint's tag, restarts and packet number.
 pub struct Session {
     pub page: usize,
     pub slot: usize,
     pub latest: [u8; SLOT_LENGTH],
     pub tag: [u8; TAG_LENGTH],
+    pub restarts: usize,
+    pub packet: usize,
 }
 
 // What an advance says.

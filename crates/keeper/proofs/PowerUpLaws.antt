@@ -13,11 +13,10 @@ use Rattle.stops.specs.Stops.{first-of, then-stop}
 use Rattle.stops.proofs.Laws.{tried, tried-first, first-append, no-lines, one-more, passes, neither}
 use Rattle.ring.specs.Ring.{Newest, ring-wrong, read-ring, is-blank, is-unreadable, nonce-used, newest-record, half-named, target-page, target-slot}
 use Rattle.ring.proofs.NewestLaws.{newest-half-fits}
-use Rattle.checkpoint.specs.Checkpoint.{empty-length}
+use Rattle.checkpoint.specs.Checkpoint.{Older, Longer, empty-length}
 use Rattle.checkpoint.specs.Fram.{fram-wrong, half-length}
-use Rattle.checkpoint.specs.Half.{good-head, stored-length, stored}
+use Rattle.checkpoint.specs.Half.{form-of, good-head, stored}
 use Rattle.checkpoint.proofs.FramLaws.{fram-sizes}
-use Rattle.checkpoint.proofs.StoredLaws.{head-facts}
 use Rattle.memories.specs.Stages.{of-memories}
 use Rattle.protocol.specs.Types.{Phase, PowerUp}
 use Rattle.protocol.specs.Calls.{PowersUp}
@@ -82,35 +81,35 @@ module _ (ring fram : List ℕ) (a : PowersUp) where
   ring-lines = power-up-ring ring (a .sizes .slots) read (a .nonce)
 
   abbrev head-line : List (ℕ × Bool)
-  head-line = (11, not (good-head half)) ∷ []
+  head-line = (11, not (good-head (form-of half) half)) ∷ []
 
   abbrev rest-lines : List (ℕ × Bool)
   rest-lines = half-lines (a .key) latest half
 
-  pub buffers-stop : {s : ℕ} → first-of (power-up-buffers ring fram a) ≡ some s → power-up-stop ring fram a ≡ some s
+  pub buffers-stop : {s : ℕ} → first-of (power-up-buffers ring fram a) ≡ some s → power-up-stop Longer ring fram a ≡ some s
   unfolding power-up-stop tried
   buffers-stop e = first-append (power-up-buffers ring fram a) (ring-lines ++ (head-line ++ rest-lines)) e
 
-  on-ring : first-of (power-up-buffers ring fram a) ≡ none → power-up-stop ring fram a ≡ first-of (ring-lines ++ (head-line ++ rest-lines))
+  on-ring : first-of (power-up-buffers ring fram a) ≡ none → power-up-stop Longer ring fram a ≡ first-of (ring-lines ++ (head-line ++ rest-lines))
   unfolding power-up-stop
   on-ring e = first-append (power-up-buffers ring fram a) (ring-lines ++ (head-line ++ rest-lines)) e ∙ tried-first (ring-lines ++ (head-line ++ rest-lines))
 
-  pub ring-stop : {s : ℕ} → first-of (power-up-buffers ring fram a) ≡ none → first-of ring-lines ≡ some s → power-up-stop ring fram a ≡ some s
+  pub ring-stop : {s : ℕ} → first-of (power-up-buffers ring fram a) ≡ none → first-of ring-lines ≡ some s → power-up-stop Longer ring fram a ≡ some s
   unfolding tried
   ring-stop e f = on-ring e ∙ first-append ring-lines (head-line ++ rest-lines) f
 
-  on-head : first-of (power-up-buffers ring fram a) ≡ none → first-of ring-lines ≡ none → power-up-stop ring fram a ≡ first-of (head-line ++ rest-lines)
+  on-head : first-of (power-up-buffers ring fram a) ≡ none → first-of ring-lines ≡ none → power-up-stop Longer ring fram a ≡ first-of (head-line ++ rest-lines)
   on-head e f = on-ring e ∙ first-append ring-lines (head-line ++ rest-lines) f ∙ tried-first (head-line ++ rest-lines)
 
-  pub head-stop : first-of (power-up-buffers ring fram a) ≡ none → first-of ring-lines ≡ none → good-head half ≡ false → power-up-stop ring fram a ≡ some 11
+  pub head-stop : first-of (power-up-buffers ring fram a) ≡ none → first-of ring-lines ≡ none → good-head (form-of half) half ≡ false → power-up-stop Longer ring fram a ≡ some 11
   unfolding first-of
   head-stop e f g = on-head e f ∙ rw g
 
-  pub on-half : first-of (power-up-buffers ring fram a) ≡ none → first-of ring-lines ≡ none → good-head half ≡ true → power-up-stop ring fram a ≡ first-of rest-lines
+  pub on-half : first-of (power-up-buffers ring fram a) ≡ none → first-of ring-lines ≡ none → good-head (form-of half) half ≡ true → power-up-stop Longer ring fram a ≡ first-of rest-lines
   unfolding first-of
   on-half e f g = on-head e f ∙ rw g
 
-  pub on-record : (rec : List ℕ) → rec ≡ newest → first-of (power-up-buffers ring fram a) ≡ none → first-of ring-lines ≡ none → power-up-stop ring fram a ≡ first-of (power-up-half (a .key) rec fram)
+  pub on-record : (rec : List ℕ) → rec ≡ newest → first-of (power-up-buffers ring fram a) ≡ none → first-of ring-lines ≡ none → power-up-stop Longer ring fram a ≡ first-of (power-up-half (a .key) rec fram)
   unfolding newest-half
   on-record rec r e f = on-head e f ∙ ap (λ (l : List ℕ). first-of (power-up-half (a .key) l fram)) (sym r)
 
@@ -120,26 +119,22 @@ module _ (ring fram : List ℕ) (a : PowersUp) where
 
   -- ---- what it answers
 
-  pub power-up-stops : (r : Begin) {s : ℕ} → r ≡ stopped s (a .staging) (a .state) → power-up-stop ring fram a ≡ some s → r ≡ power-up ring fram a
+  pub power-up-stops : (r : Begin) {s : ℕ} → r ≡ stopped s (a .staging) (a .state) → power-up-stop Longer ring fram a ≡ some s → r ≡ power-up Longer ring fram a
   unfolding power-up begin
   power-up-stops r e f = rw f e
 
   pub power-up-restores : (r : Begin) (l h : List ℕ) (phase : Phase) (other page slot : ℕ) → l ≡ latest → h ≡ half → phase ≡ first-phase read → other ≡ 1 - half-named newest
       → page ≡ target-page (a .sizes .pages) (a .sizes .slots) read → slot ≡ target-slot (a .sizes .slots) read
-      → (let old = stored (a .key) l h in let new = resumed (a .key) (a .nonce) old in
+      → (let old = stored (form-of h) (a .key) l h in let new = resumed Longer (a .key) (a .nonce) old in
       r ≡ begin (first-of (half-lines (a .key) l h)) (a .key) new (job-of (a .key) new phase PowerUp other page slot) (a .staging) (a .state) (old .secret))
-      → power-up-stop ring fram a ≡ first-of rest-lines → r ≡ power-up ring fram a
+      → power-up-stop Longer ring fram a ≡ first-of rest-lines → r ≡ power-up Longer ring fram a
   unfolding power-up newest-checkpoint
   power-up-restores r l h phase other page slot el eh ep eo eg es e f =
-      e ∙ (λ i. begin (first-of (half-lines (a .key) (el i) (eh i))) (a .key) (resumed (a .key) (a .nonce) (stored (a .key) (el i) (eh i)))
-      (job-of (a .key) (resumed (a .key) (a .nonce) (stored (a .key) (el i) (eh i))) (ep i) PowerUp (eo i) (eg i) (es i)) (a .staging) (a .state) (stored (a .key) (el i) (eh i) .secret))
+      e ∙ (λ i. begin (first-of (half-lines (a .key) (el i) (eh i))) (a .key) (resumed Longer (a .key) (a .nonce) (stored (form-of (eh i)) (a .key) (el i) (eh i)))
+      (job-of (a .key) (resumed Longer (a .key) (a .nonce) (stored (form-of (eh i)) (a .key) (el i) (eh i))) (ep i) PowerUp (eo i) (eg i) (es i)) (a .staging) (a .state) (stored (form-of (eh i)) (a .key) (el i) (eh i) .secret))
       ∙ rw f
 
--- the half is long enough to have a head, and what it holds fits staging
-pub half-long-enough : (fram h : List ℕ) → fram-wrong fram ≡ false → length h ≡ half-length fram → empty-length ≤ length h
+-- the half is long enough to have a head
+pub half-long-enough : (fram h : List ℕ) → fram-wrong fram ≡ false → length h ≡ half-length fram → empty-length Older ≤ length h
 unfolding half-length
 half-long-enough fram h w l = let z = fram-sizes fram w in omega (arith, l)
-
-pub fits-staging : (fram h staging : List ℕ) → good-head h ≡ true → length h ≡ half-length fram → half-length fram ≤ length staging → stored-length h ≤ length staging
-unfolding stored-length
-fits-staging fram h staging good l s = let f = head-facts h good .fits in omega (arith, l, s, f)

@@ -1,4 +1,4 @@
--- The stops of power-up in the stages in which the code tries them (document 01, "Stops, by the place of checking").
+-- The stops of power-up in the stages in which the code tries them (document 01, "Stops, by the place of checking", and document 02, A.2).
 use Prim.Native.Nat.{ℕ}
 use mathlib.Core.Path.{_≡_}
 use mathlib.Core.Bool.{Bool, not, _||_}
@@ -9,12 +9,12 @@ use Rattle.octets.specs.Limits.{restart-limit}
 use Rattle.octets.specs.Octets.{put}
 use Rattle.ring.specs.Ring.{Newest, is-blank, is-unreadable, nonce-used, half-named}
 use Rattle.checkpoint.specs.declared.half.Head.{Head}
-use Rattle.checkpoint.specs.Checkpoint.{sealed, own-tag}
+use Rattle.checkpoint.specs.Checkpoint.{Longer, head-length, sealed, own-tag}
 use Rattle.checkpoint.specs.Fram.{half-at}
-use Rattle.checkpoint.specs.Half.{open-length, secret-length, stored-restarts, good-tag, stored}
+use Rattle.checkpoint.specs.Half.{form-of, stored-packet, open-length, secret-length, stored-restarts, good-tag, stored}
 use Rattle.memories.specs.Stages.{of-memories}
 use Rattle.protocol.specs.Calls.{PowersUp}
-use Rattle.protocol.specs.Operations.{key-wrong, nonce-wrong, staging-wrong, state-wrong, resumed}
+use Rattle.protocol.specs.Operations.{key-wrong, nonce-wrong, staging-wrong, state-wrong, outgrows, resumed}
 use Rattle.look.specs.Stages.{look-half}
 
 -- ---- conditions
@@ -30,23 +30,29 @@ power-up-buffers ring fram a =
 abbrev pub power-up-ring : (ring : List ℕ) → ℕ → Newest → List ℕ → List (ℕ × Bool)
 power-up-ring ring slots n nonce = (6, is-blank n) ∷ (7, is-unreadable n) ∷ (10, nonce-used ring slots n nonce) ∷ []
 
--- those about the half that a record names: look's, and the restarts
+-- those about a half that can be opened: its restarts, and its length, sealed anew
+abbrev pub reseal-lines : List ℕ → List (ℕ × Bool)
+reseal-lines half = (13, eqb (stored-restarts (form-of half) half) restart-limit) ∷ (4, outgrows Longer half) ∷ []
+
+-- those about the half that a record names: look's, and these
 abbrev pub power-up-half : (key newest fram : List ℕ) → List (ℕ × Bool)
-power-up-half key newest fram = look-half key newest fram ++ ((13, eqb (stored-restarts (half-at fram (half-named newest))) restart-limit) ∷ [])
+power-up-half key newest fram = look-half key newest fram ++ reseal-lines (half-at fram (half-named newest))
 
 -- those about the half behind a good head, whose record has the nonce `latest`
 abbrev pub half-lines : (key latest half : List ℕ) → List (ℕ × Bool)
-half-lines key latest half = (12, not (good-tag key latest half)) ∷ (13, eqb (stored-restarts half) restart-limit) ∷ []
+half-lines key latest half = (12, not (good-tag (form-of half) key latest half)) ∷ reseal-lines half
 
 -- ---- a half's head as the code holds it, and what sealing it anew leaves
 
 pub record HeadOf (h : Head) (half : List ℕ) : Type 0 where
-  pub open-part : h .«open» ≡ open-length half
-  pub secret : h .secret ≡ secret-length half
-  pub restarts : h .restarts ≡ stored-restarts half
+  pub start : h .start ≡ head-length (form-of half)
+  pub packet : h .packet ≡ stored-packet (form-of half) half
+  pub open-part : h .«open» ≡ open-length (form-of half) half
+  pub secret : h .secret ≡ secret-length (form-of half) half
+  pub restarts : h .restarts ≡ stored-restarts (form-of half) half
 
 -- the tag t, and staging and state at exit
 pub record Reseals (key t latest half nonce staging staging′ state state′ : List ℕ) : Type 0 where
-  pub tag : t ≡ own-tag key (resumed key nonce (stored key latest half))
-  pub staged : staging′ ≡ put staging 0 (sealed key (resumed key nonce (stored key latest half)))
-  pub restored : state′ ≡ put state 0 (stored key latest half .secret)
+  pub tag : t ≡ own-tag key (resumed Longer key nonce (stored (form-of half) key latest half))
+  pub staged : staging′ ≡ put staging 0 (sealed key (resumed Longer key nonce (stored (form-of half) key latest half)))
+  pub restored : state′ ≡ put state 0 (stored (form-of half) key latest half .secret)

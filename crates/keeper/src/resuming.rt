@@ -10,7 +10,6 @@ use checkpoint::half::open_part;
 use checkpoint::half::open_secret;
 use checkpoint::half::read_head;
 use checkpoint::layout::EMPTY_LENGTH;
-use checkpoint::layout::HEAD_LENGTH;
 use checkpoint::staging::seal;
 use gcm::key_wrong;
 use gcm::nonce_wrong;
@@ -21,8 +20,7 @@ use jobs::Origin;
 use jobs::Phase;
 use jobs::Start;
 use jobs::no_job;
-use look::Looked;
-use look::see_half;
+use look::check_half;
 use memories::check_memories;
 use octets::fill;
 use octets::limits::NONCE_LENGTH;
@@ -49,11 +47,12 @@ ghost use Rattle.stops.specs.View.{check-number, stop-number};
 ghost use Rattle.aes.specs.Cipher.{cipher, aes};
 ghost use Rattle.ring.specs.Ring.{ring-wrong, read-ring, half-named, Within};
 ghost use Rattle.ring.specs.View.{newest};
+ghost use Rattle.checkpoint.specs.Checkpoint.{Longer};
 ghost use Rattle.checkpoint.specs.Fram.{fram-wrong};
-ghost use Rattle.checkpoint.specs.Half.{stored-length, good-head, good-tag, stored};
+ghost use Rattle.checkpoint.specs.Half.{form-of, good-head, good-tag, stored};
 ghost use Rattle.checkpoint.specs.Prepared.{Prepared};
 ghost use Rattle.protocol.specs.Types.{PowerUp};
-ghost use Rattle.protocol.specs.Operations.{begin, job-of, resumed, first-phase, power-up-stop, power-up};
+ghost use Rattle.protocol.specs.Operations.{outgrows, begin, job-of, resumed, first-phase, power-up-stop, power-up};
 ghost use Rattle.jobs.specs.View.{view-phase};
 ghost use Rattle.keeper.specs.View.{view-powered-up, powers-up};
 ghost use Rattle.jobs.specs.Stages.{stopped};
@@ -66,8 +65,16 @@ struct Resealed {
     tag: [u8; 16],
 }
 
+// Stop 4 behind 13: the half's checkpoint, sealed anew in the longer form, outgrows it.
+fn outgrows(half: &[u8], head: Head) -> bool
+    requires { ⌜ HeadOf head (now half) ⌝ }
+    ensures { λ r. ⌜ r ≡ outgrows Longer (now (half .entry)) ⌝ }
+{
+    half.len() < EMPTY_LENGTH + head.open + head.secret
+}
+
 // Opens the secret part of a half into the front of state, and seals both parts, with one restart more and behind the half's own tag, into
-// staging. The head and the tag are good, and what was prepared of the key is lent.
+// staging, in the longer form. The head and the tag are good, and what was prepared of the key is lent.
 fn reopen(
     table: &[u32; 256],
     keys: &[u8; 240],
@@ -80,8 +87,8 @@ fn reopen(
     staging: &mut [u8],
     state: &mut [u8],
 ) -> [u8; 16]
-    requires { ⌜ Prepared (now table) (now keys) (now steps) rounds × (length (now latest) ≡ nonce-length) × (length (now nonce) ≡ nonce-length) × (good-head (now half) ≡ true) × HeadOf head (now half) × (head .restarts < restart-limit) × (stored-length (now half) ≤ length (now staging)) × (part-limit ≤ length (now state)) ⌝ }
-    ensures { λ r. ⌜ ((key : List ℕ) → cipher rounds (now (keys .entry)) ≡ aes key → good-tag key (now (latest .entry)) (now (half .entry)) ≡ true → Reseals key r (now (latest .entry)) (now (half .entry)) (now (nonce .entry)) (now (staging .entry)) (now (staging .exit)) (now (state .entry)) (now (state .exit))) ⌝ }
+    requires { ⌜ Prepared (now table) (now keys) (now steps) rounds × (length (now latest) ≡ nonce-length) × (length (now nonce) ≡ nonce-length) × (good-head (form-of (now half)) (now half) ≡ true) × HeadOf head (now half) × (head .restarts < restart-limit) × (outgrows Longer (now half) ≡ false) × (length (now half) ≤ length (now staging)) × (part-limit ≤ length (now state)) ⌝ }
+    ensures { λ r. ⌜ ((key : List ℕ) → cipher rounds (now (keys .entry)) ≡ aes key → good-tag (form-of (now (half .entry))) key (now (latest .entry)) (now (half .entry)) ≡ true → Reseals key r (now (latest .entry)) (now (half .entry)) (now (nonce .entry)) (now (staging .entry)) (now (staging .exit)) (now (state .entry)) (now (state .exit))) ⌝ }
 {
     open_secret(
         table,
@@ -89,26 +96,28 @@ fn reopen(
         rounds,
         latest,
         half,
+        head.start,
         head.open,
         head.secret,
         state,
     );
-    let end = HEAD_LENGTH + head.open + head.secret;
+    let end = head.start + head.open + head.secret;
     seal(
         table,
         keys,
         rounds,
         steps,
         nonce,
+        head.packet,
         head.restarts + 1,
         part(half, end, TAG_LENGTH),
-        open_part(half, head.open),
+        open_part(half, head.start, head.open),
         part(state, 0, head.secret),
         staging,
     )
 }
 
-// Stops 12 and 13 of a half with a good head, or the checkpoint sealed anew.
+// Stops 12, 13 and 4 of a half with a good head, or the checkpoint sealed anew.
 fn reseal_prepared(
     table: &[u32; 256],
     keys: &[u8; 240],
@@ -121,7 +130,7 @@ fn reseal_prepared(
     staging: &mut [u8],
     state: &mut [u8],
 ) -> Resealed
-    requires { ⌜ Prepared (now table) (now keys) (now steps) rounds × (length (now latest) ≡ nonce-length) × (length (now nonce) ≡ nonce-length) × (good-head (now half) ≡ true) × HeadOf head (now half) × (stored-length (now half) ≤ length (now staging)) × (part-limit ≤ length (now state)) ⌝ }
+    requires { ⌜ Prepared (now table) (now keys) (now steps) rounds × (length (now latest) ≡ nonce-length) × (length (now nonce) ≡ nonce-length) × (good-head (form-of (now half)) (now half) ≡ true) × HeadOf head (now half) × (length (now half) ≤ length (now staging)) × (part-limit ≤ length (now state)) ⌝ }
     ensures { λ r. ⌜ ((key : List ℕ) → cipher rounds (now (keys .entry)) ≡ aes key → Outcome key r (now (latest .entry)) (now (half .entry)) (now (nonce .entry)) (now (staging .entry)) (now (staging .exit)) (now (state .entry)) (now (state .exit))) ⌝ }
 {
     let good = good_tag(
@@ -131,12 +140,14 @@ fn reseal_prepared(
         steps,
         latest,
         half,
+        head.start,
         head.open,
         head.secret,
     );
     let check = Check::Pass
         .stop_if(!good, Stop::TagDiffers)
-        .stop_if(head.restarts == RESTART_LIMIT, Stop::RestartLimit);
+        .stop_if(head.restarts == RESTART_LIMIT, Stop::RestartLimit)
+        .stop_if(outgrows(half, head), Stop::BufferSize);
     match check {
         Check::Stopped(stop) => {
             let zeros = [0u8; 16];
@@ -176,7 +187,7 @@ fn reseal(
     staging: &mut [u8],
     state: &mut [u8],
 ) -> Resealed
-    requires { ⌜ (length (now key) ≡ key-length) × (length (now latest) ≡ nonce-length) × (length (now nonce) ≡ nonce-length) × (good-head (now half) ≡ true) × HeadOf head (now half) × (stored-length (now half) ≤ length (now staging)) × (part-limit ≤ length (now state)) ⌝ }
+    requires { ⌜ (length (now key) ≡ key-length) × (length (now latest) ≡ nonce-length) × (length (now nonce) ≡ nonce-length) × (good-head (form-of (now half)) (now half) ≡ true) × HeadOf head (now half) × (length (now half) ≤ length (now staging)) × (part-limit ≤ length (now state)) ⌝ }
     ensures { λ r. ⌜ Outcome (now (key .entry)) r (now (latest .entry)) (now (half .entry)) (now (nonce .entry)) (now (staging .entry)) (now (staging .exit)) (now (state .entry)) (now (state .exit)) ⌝ }
 {
     let rounds = key.len() / 4 + 6;
@@ -212,7 +223,7 @@ fn not_resumed(stop: Stop) -> PoweredUp
     }
 }
 
-// A half with a good head: stops 12 and 13, or the checkpoint sealed anew, and the job that stores it in a half and at a target.
+// A half with a good head: stops 12, 13 and 4, or the checkpoint sealed anew, and the job that stores it in a half and at a target.
 fn restore(
     key: &[u8],
     latest: &[u8],
@@ -226,8 +237,8 @@ fn restore(
     page: usize,
     slot: usize,
 ) -> PoweredUp
-    requires { ⌜ (length (now key) ≡ key-length) × (length (now latest) ≡ nonce-length) × (length (now nonce) ≡ nonce-length) × (good-head (now half) ≡ true) × HeadOf head (now half) × (stored-length (now half) ≤ length (now staging)) × (part-limit ≤ length (now state)) ⌝ }
-    ensures { λ r. ⌜ view-powered-up r (now (staging .exit)) (now (state .exit)) ≡ begin (first-of (half-lines (now (key .entry)) (now (latest .entry)) (now (half .entry)))) (now (key .entry)) (resumed (now (key .entry)) (now (nonce .entry)) (stored (now (key .entry)) (now (latest .entry)) (now (half .entry)))) (job-of (now (key .entry)) (resumed (now (key .entry)) (now (nonce .entry)) (stored (now (key .entry)) (now (latest .entry)) (now (half .entry)))) (view-phase phase) PowerUp other page slot) (now (staging .entry)) (now (state .entry)) (stored (now (key .entry)) (now (latest .entry)) (now (half .entry)) .secret) ⌝ }
+    requires { ⌜ (length (now key) ≡ key-length) × (length (now latest) ≡ nonce-length) × (length (now nonce) ≡ nonce-length) × (good-head (form-of (now half)) (now half) ≡ true) × HeadOf head (now half) × (length (now half) ≤ length (now staging)) × (part-limit ≤ length (now state)) ⌝ }
+    ensures { λ r. ⌜ view-powered-up r (now (staging .exit)) (now (state .exit)) ≡ begin (first-of (half-lines (now (key .entry)) (now (latest .entry)) (now (half .entry)))) (now (key .entry)) (resumed Longer (now (key .entry)) (now (nonce .entry)) (stored (form-of (now (half .entry))) (now (key .entry)) (now (latest .entry)) (now (half .entry)))) (job-of (now (key .entry)) (resumed Longer (now (key .entry)) (now (nonce .entry)) (stored (form-of (now (half .entry))) (now (key .entry)) (now (latest .entry)) (now (half .entry)))) (view-phase phase) PowerUp other page slot) (now (staging .entry)) (now (state .entry)) (stored (form-of (now (half .entry))) (now (key .entry)) (now (latest .entry)) (now (half .entry)) .secret) ⌝ }
 {
     let resealed = reseal(key, latest, half, head, nonce, staging, state);
     let check = resealed.check;
@@ -245,6 +256,8 @@ fn restore(
                 slot,
                 nonce: twelve(nonce),
                 tag,
+                restarts: head.restarts + 1,
+                packet: head.packet,
             };
             PoweredUp {
                 start: Start::Begun,
@@ -305,17 +318,17 @@ fn check_power_up_ring(
         .stop_if(used, Stop::NonceUsed)
 }
 
-// Stops 11 to 13 of power-up, on the half that a record names.
+// Stops 11 to 13 and 4 of power-up, on the half that a record names.
 fn check_power_up_half(record: &[u8], fram: &[u8], key: &[u8]) -> Check
     requires { ⌜ (fram-wrong (now fram) ≡ false) × (length (now key) ≡ key-length) × (length (now «record») ≡ slot-length) × (half-named (now «record») ≤ 1) ⌝ }
     ensures { λ r. ⌜ check-number r ≡ first-of (power-up-half (now (key .entry)) (now («record» .entry)) (now (fram .entry))) ⌝ }
 {
-    let seen = see_half(record, fram, key);
-    let looked = seen.looked;
-    match looked {
-        Looked::Unseen(stop) => Check::Stopped(stop),
-        Looked::Restarts(n) => Check::Pass.stop_if(n == RESTART_LIMIT, Stop::RestartLimit),
-    }
+    let half = half_at(fram, half_named(record));
+    let head = read_head(half);
+    let n = head.restarts;
+    check_half(key, part(record, 0, NONCE_LENGTH), half, head)
+        .stop_if(n == RESTART_LIMIT, Stop::RestartLimit)
+        .stop_if(outgrows(half, head), Stop::BufferSize)
 }
 
 // Whether a power-up would stop, by 1 to 4, 6, 7 or 10 to 13. Nothing is stored.
@@ -329,7 +342,7 @@ pub fn power_up_check(
     staging: &[u8],
     state: &[u8],
 ) -> Check
-    ensures { λ r. ⌜ check-number r ≡ power-up-stop (now (ring .entry)) (now (fram .entry)) (powers-up pages slots (now (key .entry)) (now (nonce .entry)) (now (staging .entry)) (now (state .entry))) ⌝ }
+    ensures { λ r. ⌜ check-number r ≡ power-up-stop Longer (now (ring .entry)) (now (fram .entry)) (powers-up pages slots (now (key .entry)) (now (nonce .entry)) (now (staging .entry)) (now (state .entry))) ⌝ }
 {
     let check = check_power_up_buffers(pages, slots, ring, fram, key, nonce, staging, state);
     match check {
@@ -358,7 +371,7 @@ fn resume(
     found: Newest,
 ) -> PoweredUp
     requires { ⌜ (first-of (power-up-buffers (now ring) (now fram) (powers-up pages slots (now key) (now nonce) (now staging) (now state))) ≡ none) × (newest found ≡ read-ring (now ring) pages slots) × Within pages slots (newest found) × (first-of (power-up-ring (now ring) slots (newest found) (now nonce)) ≡ none) ⌝ }
-    ensures { λ r. ⌜ view-powered-up r (now (staging .exit)) (now (state .exit)) ≡ power-up (now (ring .entry)) (now (fram .entry)) (powers-up pages slots (now (key .entry)) (now (nonce .entry)) (now (staging .entry)) (now (state .entry))) ⌝ }
+    ensures { λ r. ⌜ view-powered-up r (now (staging .exit)) (now (state .exit)) ≡ power-up Longer (now (ring .entry)) (now (fram .entry)) (powers-up pages slots (now (key .entry)) (now (nonce .entry)) (now (staging .entry)) (now (state .entry))) ⌝ }
 {
     let record = found.record(ring, pages, slots);
     let number = half_named(record);
@@ -398,7 +411,7 @@ fn power_up_on(
     state: &mut [u8],
 ) -> PoweredUp
     requires { ⌜ first-of (power-up-buffers (now ring) (now fram) (powers-up pages slots (now key) (now nonce) (now staging) (now state))) ≡ none ⌝ }
-    ensures { λ r. ⌜ view-powered-up r (now (staging .exit)) (now (state .exit)) ≡ power-up (now (ring .entry)) (now (fram .entry)) (powers-up pages slots (now (key .entry)) (now (nonce .entry)) (now (staging .entry)) (now (state .entry))) ⌝ }
+    ensures { λ r. ⌜ view-powered-up r (now (staging .exit)) (now (state .exit)) ≡ power-up Longer (now (ring .entry)) (now (fram .entry)) (powers-up pages slots (now (key .entry)) (now (nonce .entry)) (now (staging .entry)) (now (state .entry))) ⌝ }
 {
     let found = read_ring(ring, pages, slots);
     let check = check_power_up_ring(pages, slots, ring, found, nonce);
@@ -420,7 +433,7 @@ pub fn power_up(
     staging: &mut [u8],
     state: &mut [u8],
 ) -> PoweredUp
-    ensures { λ r. ⌜ view-powered-up r (now (staging .exit)) (now (state .exit)) ≡ power-up (now (ring .entry)) (now (fram .entry)) (powers-up pages slots (now (key .entry)) (now (nonce .entry)) (now (staging .entry)) (now (state .entry))) ⌝ }
+    ensures { λ r. ⌜ view-powered-up r (now (staging .exit)) (now (state .exit)) ≡ power-up Longer (now (ring .entry)) (now (fram .entry)) (powers-up pages slots (now (key .entry)) (now (nonce .entry)) (now (staging .entry)) (now (state .entry))) ⌝ }
 {
     let check = check_power_up_buffers(pages, slots, ring, fram, key, nonce, staging, state);
     match check {

@@ -8,25 +8,29 @@ use mathlib.Core.List.{List}
 use native.Mathlib.Omega.{arith}
 use borrow.Author.Tests.{eqb-true, not-false}
 use lib.Dec.{eqb, ltb, lit<}
-use lib.ListN.{length, length-append, take}
+use lib.ListN.{length, length-append, take, getD}
 use Rattle.octets.specs.Limits.{nonce-length, tag-length, part-limit}
-use Rattle.octets.proofs.Numbers.{length-word}
+use Rattle.octets.specs.Word.{word-at}
+use Rattle.octets.proofs.Numbers.{length-word, number-lt}
 use Rattle.stops.proofs.Laws.{passes, neither}
 use Rattle.ring.specs.Ring.{ring-wrong, record-of, page-before, Newest, Blank, Unreadable, At, AtPending, read-ring, newest-page, newest-slot, next-page, newest-record, target-page, target-slot}
 use Rattle.ring.proofs.SizeLaws.{Sized, sized}
 use Rattle.ring.proofs.TurnLaws.{next-laws, before-laws}
 use Rattle.ring.proofs.NewestLaws.{read-within, pending-before}
-use Rattle.checkpoint.specs.Checkpoint.{Checkpoint}
-use Rattle.checkpoint.specs.Half.{good-head}
+use Rattle.checkpoint.specs.Checkpoint.{Form, Longer, Checkpoint}
+use Rattle.checkpoint.specs.Half.{form-of, stored-packet, good-head, stored}
+use Rattle.checkpoint.specs.Layout.{PacketInRange}
 use Rattle.checkpoint.proofs.FramLaws.{half-sizes}
-use Rattle.checkpoint.proofs.SealedLaws.{length-own-tag, length-sealed}
+use Rattle.checkpoint.proofs.SealedLaws.{head-small, length-own-tag, length-sealed}
 use Rattle.checkpoint.proofs.StoredLaws.{stored-in-range}
-use Rattle.protocol.specs.Types.{Phase, EraseFirst, Words, Record, EraseAfter, Done, Origin, Job}
+use Rattle.protocol.specs.Types.{Phase, EraseFirst, Words, Record, EraseAfter, Done, Origin, Job, Session}
 use Rattle.protocol.specs.Calls.{Sizes, SaveArguments, FirstSave, Saves, PowersUp, Advances}
-use Rattle.protocol.specs.Operations.{key-wrong, nonce-wrong, begin, job-of, first-checkpoint, save-checkpoint, resumed, first-phase, first-save-stop, first-save, save-stop, save, newest-half, newest-checkpoint, power-up-stop, power-up, no-session, job-record, session-of, in-phase, Moved, going-on, ended, recorded, erase-follows, after-record, store, advance-stop, advance-by, advance}
+use Rattle.protocol.specs.Operations.{key-wrong, nonce-wrong, stale, session-wrong, newest-in, written-number, larger, save-restarts, no-job, begin, job-of, first-checkpoint, save-checkpoint, resumed, first-phase, first-save-stop, first-save, save-stop, save, newest-half, newest-checkpoint, power-up-stop, power-up, no-session, job-record, session-of, in-phase, Moved, going-on, ended, recorded, erase-follows, after-record, store, advance-stop, advance-by, advance}
+use Rattle.protocol.proofs.FirstSaves.{numbered, packet-in-range}
+use Rattle.protocol.proofs.Saves.{save-numbered, save-few}
 use Rattle.jobs.proofs.AdvanceLaws.{Ready, ready, word-ready}
 use Rattle.jobs.proofs.SaveLaws.{lengths, first-lengths}
-use Rattle.job_bytes.specs.Bytes.{phase-place, job-bytes, session-bytes, job-in, session-in}
+use Rattle.job_bytes.specs.Bytes.{phase-place, no-job-in, job-bytes, session-bytes, job-in, session-in}
 use Rattle.job_bytes.proofs.BytesLaws.{session-tag, job-lengths}
 use Rattle.job_bytes.proofs.ReadBack.{FitsJob, FitsSession, job-back, session-back}
 use Rattle.keeper_c.specs.Calls.{saves-in, advances-in}
@@ -36,15 +40,37 @@ either : {A : Type 0} (P : A → Type 0) (b : Bool) (x y : A) → P x → (b ≡
 either P true x y p q = p
 either P false x y p q = q refl
 
+-- ---- restarts and packet numbers
+
+small : (form : Form) (packet : ℕ) → PacketInRange form packet → packet < 2 ^ 32
+small form packet n = omega (arith, packet-in-range form packet n)
+
+few : (form : Form) (packet : ℕ) (z : Session) → session-wrong form z ≡ false → save-restarts form packet (z .packet) (z .restarts) < 2 ^ 32
+few form packet z e = omega (arith, save-few form packet z e)
+
+word-small : (b : List ℕ) (i : ℕ) → ((k : ℕ) → getD b k 0 < 256) → word-at b i < 2 ^ 32
+unfolding word-at
+word-small b i h = number-lt b i 4 h
+
+-- those of a job that is read from bytes are words
+job-numbers-by : (b : List ℕ) → ((i : ℕ) → getD b i 0 < 256) → (none : Bool) → no-job-in b ≡ none → (job-in b .restarts < 2 ^ 32) × (job-in b .packet < 2 ^ 32)
+unfolding job-in no-job
+job-numbers-by b h true e = rw e (lit< tt, lit< tt)
+job-numbers-by b h false e = rw e (word-small b 56 h, word-small b 60 h)
+
+job-numbers : (b : List ℕ) → ((i : ℕ) → getD b i 0 < 256) → (job-in b .restarts < 2 ^ 32) × (job-in b .packet < 2 ^ 32)
+job-numbers b h = job-numbers-by b h (no-job-in b) refl
+
 -- ---- the job of a start
 
 module _ (key : List ℕ) (c : Checkpoint) (phase : Phase) (origin : Origin) (half page slot : ℕ) where
   made-fits : length (c .previous) ≡ tag-length → length (c .open-part) ≤ part-limit → length (c .secret) ≤ part-limit → length (c .nonce) ≡ nonce-length
-      → phase-place phase < 2 ^ 32 → half < 2 ^ 32 → page < 2 ^ 32 → slot < 2 ^ 32 → FitsJob (job-of key c phase origin half page slot)
+      → phase-place phase < 2 ^ 32 → half < 2 ^ 32 → page < 2 ^ 32 → slot < 2 ^ 32 → c .restarts < 2 ^ 32 → c .packet < 2 ^ 32 → FitsJob (job-of key c phase origin half page slot)
   unfolding job-of
-  made-fits p o s n w h g t =
+  made-fits p o s n w h g t r k =
       let l = length-sealed key c p in
-      record { place = w; half = h; long = omega arith; page = g; slot = t; nonce = n; tag = length-own-tag key c }
+      let m = head-small (c .form) in
+      record { place = w; half = h; long = omega (arith, l, m); page = g; slot = t; nonce = n; tag = length-own-tag key c; restarts = r; packet = k }
 
 begun-fits : (S : Option ℕ) (key : List ℕ) (c : Checkpoint) (j : Job) (staging state secret : List ℕ) → S ≡ none → FitsJob j → FitsJob (begin S key c j staging state secret .job)
 unfolding begin
@@ -84,37 +110,42 @@ module _ (pages slots : ℕ) (ring : List ℕ) (w : ring-wrong pages slots ring 
       omega arith
 
 module _ (ring fram : List ℕ) where
-  first-save-fits : (a : FirstSave) → first-save-stop ring fram a ≡ none → FitsJob (first-save ring fram a .job)
-  unfolding first-save first-checkpoint
+  first-save-fits : (a : FirstSave) → first-save-stop Longer ring fram a ≡ none → FitsJob (first-save Longer ring fram a .job)
+  unfolding first-save first-checkpoint first-save-stop
   first-save-fits a e =
       let l = first-lengths ring fram a e in
-      begun-fits (first-save-stop ring fram a) _ _ _ _ _ _ e
-      (made-fits _ _ _ _ 0 0 0 (l .1) (l .0 .open-part) (l .0 .secret) (l .0 .nonce) (lit< tt) (lit< tt) (lit< tt) (lit< tt))
+      begun-fits (first-save-stop Longer ring fram a) _ _ _ _ _ _ e
+      (made-fits _ _ _ _ 0 0 0 (l .1) (l .0 .open-part) (l .0 .secret) (l .0 .nonce) (lit< tt) (lit< tt) (lit< tt) (lit< tt) (lit< tt)
+      (small Longer (written-number Longer (a .arguments .packet)) (numbered Longer (a .arguments .packet) (passes _ e .1 .1 .1 .1 .0))))
 
-  save-fits : (a : Saves) → length (a .session .tag) ≡ tag-length → save-stop ring fram a ≡ none → FitsJob (save ring fram a .job)
+  save-fits : (a : Saves) → length (a .session .tag) ≡ tag-length → save-stop Longer ring fram a ≡ none → FitsJob (save Longer ring fram a .job)
   unfolding save save-checkpoint save-stop
   save-fits a t e =
       let z = a .arguments .sizes in
       let p = passes _ e in
       let n = neither (key-wrong (length (a .arguments .key))) (nonce-wrong (length (a .arguments .nonce))) (p .1 .1 .0) in
-      let l = lengths fram (a .arguments) (n .0) (n .1) (p .1 .1 .1 .0) in
-      begun-fits (save-stop ring fram a) _ _ _ _ _ _ e
+      let y = neither (stale ring (z .slots) (newest-in ring z) (a .session)) (session-wrong Longer (a .session)) (p .1 .1 .1 .1 .1 .1 .1 .0) in
+      let l = lengths fram (a .arguments) (n .0) (n .1) (p .1 .1 .1 .0) (p .1 .1 .1 .1 .0) in
+      begun-fits (save-stop Longer ring fram a) _ _ _ _ _ _ e
       (made-fits _ _ _ _ _ _ _ t (l .open-part) (l .secret) (l .nonce) (lit< tt) (omega arith)
-      (page-fits (z .pages) (z .slots) ring (p .0)) (slot-fits (z .pages) (z .slots) ring (p .0)))
+      (page-fits (z .pages) (z .slots) ring (p .0)) (slot-fits (z .pages) (z .slots) ring (p .0))
+      (few Longer (a .arguments .packet) (a .session) (y .1))
+      (small Longer (written-number Longer (larger (a .session .packet) (a .arguments .packet))) (save-numbered Longer (a .arguments .packet) (a .session) (p .1 .1 .1 .1 .0) (y .1))))
 
-  power-up-fits : (a : PowersUp) → power-up-stop ring fram a ≡ none → FitsJob (power-up ring fram a .job)
-  unfolding power-up newest-checkpoint resumed power-up-stop
+  power-up-fits : (a : PowersUp) → power-up-stop Longer ring fram a ≡ none → FitsJob (power-up Longer ring fram a .job)
+  unfolding power-up newest-checkpoint resumed power-up-stop stored
   power-up-fits a e =
       let z = a .sizes in
       let n = read-ring ring (z .pages) (z .slots) in
       let half = newest-half ring fram (z .slots) n in
       let p = passes _ e in
       let k = neither (key-wrong (length (a .key))) (nonce-wrong (length (a .nonce))) (p .1 .1 .0) in
-      let good = not-false (good-head half) (p .1 .1 .1 .1 .1 .1 .1 .0) in
-      let old = stored-in-range (a .key) (take nonce-length (newest-record ring (z .slots) n)) half good in
-      begun-fits (power-up-stop ring fram a) _ _ _ _ _ _ e
+      let good = not-false (good-head (form-of half) half) (p .1 .1 .1 .1 .1 .1 .1 .0) in
+      let old = stored-in-range (form-of half) (a .key) (take nonce-length (newest-record ring (z .slots) n)) half good in
+      begun-fits (power-up-stop Longer ring fram a) _ _ _ _ _ _ e
       (made-fits _ _ _ _ _ _ _ (length-own-tag (a .key) _) (old .open-small) (old .secret-small) (eqb-true (length (a .nonce)) nonce-length (not-false _ (k .1)))
-      (phase-fits (z .pages) (z .slots) ring (p .0) n refl) (omega arith) (page-fits (z .pages) (z .slots) ring (p .0)) (slot-fits (z .pages) (z .slots) ring (p .0)))
+      (phase-fits (z .pages) (z .slots) ring (p .0) n refl) (omega arith) (page-fits (z .pages) (z .slots) ring (p .0)) (slot-fits (z .pages) (z .slots) ring (p .0))
+      (omega (arith, old .restarts-small)) (small (form-of half) (stored-packet (form-of half) half) (old .packet-small)))
 
 -- ---- the job and the session of an advance
 
@@ -123,9 +154,10 @@ Fits m = FitsJob (m .job) × FitsSession (m .session)
 
 no-session-fits : FitsSession no-session
 unfolding no-session
-no-session-fits = record { page = lit< tt; slot = lit< tt; latest = refl; tag = refl }
+no-session-fits = record { page = lit< tt; slot = lit< tt; latest = refl; tag = refl; restarts = lit< tt; packet = lit< tt }
 
-module _ (ring fram : List ℕ) (a : Advances) (nonce : length (a .job .nonce) ≡ nonce-length) (tag : length (a .job .tag) ≡ tag-length) (e : advance-stop ring fram a ≡ none) where
+module _ (ring fram : List ℕ) (a : Advances) (nonce : length (a .job .nonce) ≡ nonce-length) (tag : length (a .job .tag) ≡ tag-length)
+    (restarts : a .job .restarts < 2 ^ 32) (packet : a .job .packet < 2 ^ 32) (e : advance-stop Longer ring fram a ≡ none) where
   abbrev r : Ready (a .job) (a .sizes) ring fram (a .staging)
   r = ready ring fram a e
 
@@ -138,7 +170,7 @@ module _ (ring fram : List ℕ) (a : Advances) (nonce : length (a .job .nonce) �
       let n = r .numbers in
       let z = ringed .numbers in
       let h = half-sizes fram (r .fram-right) in
-      record { place = w; half = omega arith; long = omega arith; page = omega arith; slot = omega arith; nonce = nonce; tag = tag }
+      record { place = w; half = omega arith; long = omega arith; page = omega arith; slot = omega arith; nonce = nonce; tag = tag; restarts = restarts; packet = packet }
 
   new-session-fits : FitsSession (session-of (a .job))
   unfolding session-of job-record record-of
@@ -150,6 +182,8 @@ module _ (ring fram : List ℕ) (a : Advances) (nonce : length (a .job .nonce) �
         slot = omega arith;
         latest = length-append (a .job .nonce) _ ∙ ap₂ (λ (x y : ℕ). x + y) nonce (length-word 1 (a .job .half));
         tag = tag;
+        restarts = restarts;
+        packet = packet;
       }
 
   goes-on : (p : Phase) (ring′ fram′ : List ℕ) → phase-place p < 2 ^ 32 → Fits (going-on (a .job) p ring′ fram′)
@@ -177,7 +211,7 @@ module _ (ring fram : List ℕ) (a : Advances) (nonce : length (a .job .nonce) �
   store-fits (EraseAfter p) t = ends _ fram
   store-fits Done t = ends ring fram
 
-  advance-fits : Fits (advance ring fram a)
+  advance-fits : Fits (advance Longer ring fram a)
   unfolding advance advance-by
   advance-fits = rw e (store-fits (a .job .phase) refl)
 
@@ -185,26 +219,27 @@ module _ (ring fram : List ℕ) (a : Advances) (nonce : length (a .job .nonce) �
 
 module _ (ring fram : List ℕ) where
   -- the bytes of the job that a first save hands out are read as that job
-  pub first-save-back : (a : FirstSave) → first-save-stop ring fram a ≡ none → job-in (job-bytes (first-save ring fram a .job)) ≡ first-save ring fram a .job
+  pub first-save-back : (a : FirstSave) → first-save-stop Longer ring fram a ≡ none → job-in (job-bytes (first-save Longer ring fram a .job)) ≡ first-save Longer ring fram a .job
   first-save-back a e = job-back _ (first-save-fits ring fram a e)
 
   -- those of a save's job, with a session read from any buffer
-  pub save-back : (a : SaveArguments) (session : List ℕ) → save-stop ring fram (saves-in a session) ≡ none
-      → job-in (job-bytes (save ring fram (saves-in a session) .job)) ≡ save ring fram (saves-in a session) .job
+  pub save-back : (a : SaveArguments) (session : List ℕ) → save-stop Longer ring fram (saves-in a session) ≡ none
+      → job-in (job-bytes (save Longer ring fram (saves-in a session) .job)) ≡ save Longer ring fram (saves-in a session) .job
   save-back a session e = job-back _ (save-fits ring fram (saves-in a session) (session-tag session) e)
 
   -- those of a power-up's job
-  pub power-up-back : (a : PowersUp) → power-up-stop ring fram a ≡ none → job-in (job-bytes (power-up ring fram a .job)) ≡ power-up ring fram a .job
+  pub power-up-back : (a : PowersUp) → power-up-stop Longer ring fram a ≡ none → job-in (job-bytes (power-up Longer ring fram a .job)) ≡ power-up Longer ring fram a .job
   power-up-back a e = job-back _ (power-up-fits ring fram a e)
 
-  module _ (z : Sizes) (job staging : List ℕ) (e : advance-stop ring fram (advances-in z job staging) ≡ none) where
-    both-fit : Fits (advance ring fram (advances-in z job staging))
-    both-fit = let l = job-lengths job in advance-fits ring fram (advances-in z job staging) (l .0) (l .1) e
+  -- a job buffer holds bytes
+  module _ (z : Sizes) (job staging : List ℕ) (b : (i : ℕ) → getD job i 0 < 256) (e : advance-stop Longer ring fram (advances-in z job staging) ≡ none) where
+    both-fit : Fits (advance Longer ring fram (advances-in z job staging))
+    both-fit = let l = job-lengths job in let k = job-numbers job b in advance-fits ring fram (advances-in z job staging) (l .0) (l .1) (k .0) (k .1) e
 
     -- those of the job that an advance has moved on, read from any buffer
-    pub advance-job-back : job-in (job-bytes (advance ring fram (advances-in z job staging) .job)) ≡ advance ring fram (advances-in z job staging) .job
+    pub advance-job-back : job-in (job-bytes (advance Longer ring fram (advances-in z job staging) .job)) ≡ advance Longer ring fram (advances-in z job staging) .job
     advance-job-back = job-back _ (both-fit .0)
 
     -- the bytes of the session that it answers are read as that session; at 'going on' they are not written
-    pub advance-session-back : session-in (session-bytes (advance ring fram (advances-in z job staging) .session)) ≡ advance ring fram (advances-in z job staging) .session
+    pub advance-session-back : session-in (session-bytes (advance Longer ring fram (advances-in z job staging) .session)) ≡ advance Longer ring fram (advances-in z job staging) .session
     advance-session-back = session-back _ (both-fit .1)

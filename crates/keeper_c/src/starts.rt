@@ -64,12 +64,13 @@ pub extern "C" fn keeper_first_save(
     key: &[u8],
     nonce: &[u8],
     starting_tag: &[u8],
+    packet: u32,
     open_part: &[u8],
     secret: &[u8],
     staging: &mut [u8],
     job: &mut [u8],
 ) -> u32
-    ensures { λ r. ⌜ saving-left r (now (staging .exit)) (now (job .exit)) ≡ first-save-call (now (ring .entry)) (now (fram .entry)) (first-saves (save-arguments pages slots (now (key .entry)) (now (nonce .entry)) (now («open_part» .entry)) (now (secret .entry)) (now (staging .entry))) (now («starting_tag» .entry))) (now (job .entry)) ⌝ }
+    ensures { λ r. ⌜ saving-left r (now (staging .exit)) (now (job .exit)) ≡ first-save-call (now (ring .entry)) (now (fram .entry)) (first-saves (save-arguments pages slots (now (key .entry)) (now (nonce .entry)) packet (now («open_part» .entry)) (now (secret .entry)) (now (staging .entry))) (now («starting_tag» .entry))) (now (job .entry)) ⌝ }
 {
     if job.len() != JOB_LENGTH {
         let check = first_save_check(
@@ -80,6 +81,7 @@ pub extern "C" fn keeper_first_save(
             key,
             nonce,
             starting_tag,
+            packet as usize,
             open_part,
             secret,
             staging,
@@ -94,6 +96,7 @@ pub extern "C" fn keeper_first_save(
         key,
         nonce,
         starting_tag,
+        packet as usize,
         open_part,
         secret,
         staging,
@@ -112,12 +115,13 @@ pub extern "C" fn keeper_save(
     key: &[u8],
     nonce: &[u8],
     session: &[u8],
+    packet: u32,
     open_part: &[u8],
     secret: &[u8],
     staging: &mut [u8],
     job: &mut [u8],
 ) -> u32
-    ensures { λ r. ⌜ saving-left r (now (staging .exit)) (now (job .exit)) ≡ save-call (now (ring .entry)) (now (fram .entry)) (saves-in (save-arguments pages slots (now (key .entry)) (now (nonce .entry)) (now («open_part» .entry)) (now (secret .entry)) (now (staging .entry))) (now (session .entry))) (now (job .entry)) ⌝ }
+    ensures { λ r. ⌜ saving-left r (now (staging .exit)) (now (job .exit)) ≡ save-call (now (ring .entry)) (now (fram .entry)) (saves-in (save-arguments pages slots (now (key .entry)) (now (nonce .entry)) packet (now («open_part» .entry)) (now (secret .entry)) (now (staging .entry))) (now (session .entry))) (now (job .entry)) ⌝ }
 {
     let given = session_in(session);
     if job.len() != JOB_LENGTH {
@@ -128,6 +132,7 @@ pub extern "C" fn keeper_save(
             fram,
             key,
             nonce,
+            packet as usize,
             open_part,
             secret,
             staging,
@@ -141,6 +146,7 @@ pub extern "C" fn keeper_save(
         fram,
         key,
         nonce,
+        packet as usize,
         open_part,
         secret,
         staging,

@@ -1,5 +1,5 @@
-// Document 01's bench values of the limits: what a first save says to a number of pages, a FRAM and parts of given lengths, and a
-// power-up to a ring whose pages that are not blank do not follow each other.
+// The papers' bench values of the limits: what a first save says to a number of pages, a FRAM, parts of given lengths and a packet number,
+// and a power-up to a ring whose pages that are not blank do not follow each other.
 use crate::print::print;
 use crate::print::print_stop;
 use crate::values::key;
@@ -21,7 +21,15 @@ fn print_start(start: Start) {
 }
 
 // Begins a first save and prints what it says; staging is long enough for every FRAM that is tried.
-fn begin(name: &[u8], pages: usize, ring: &[u8], fram: &[u8], open: &[u8], secret: &[u8]) {
+fn begin(
+    name: &[u8],
+    pages: usize,
+    ring: &[u8],
+    fram: &[u8],
+    packet: usize,
+    open: &[u8],
+    secret: &[u8],
+) {
     let mut staging = [0u8; 65_540];
     let started = first_save(
         pages,
@@ -31,6 +39,7 @@ fn begin(name: &[u8], pages: usize, ring: &[u8], fram: &[u8], open: &[u8], secre
         &key(),
         &[1u8; 12],
         &starting_tag(),
+        packet,
         open,
         secret,
         &mut staging,
@@ -41,7 +50,7 @@ fn begin(name: &[u8], pages: usize, ring: &[u8], fram: &[u8], open: &[u8], secre
 }
 
 // A first save on a blank ring of pages of 2 slots.
-fn try_first_save(name: &[u8], pages: usize, fram: usize, open: usize, secret: usize)
+fn try_first_save(name: &[u8], pages: usize, fram: usize, packet: usize, open: usize, secret: usize)
     requires { ⌜ (pages ≤ 33) × (fram ≤ 131080) × («open» ≤ 4100) × (secret ≤ 4100) ⌝ }
 {
     let ring = [0xFFu8; 1056];
@@ -52,6 +61,7 @@ fn try_first_save(name: &[u8], pages: usize, fram: usize, open: usize, secret: u
         pages,
         part(&ring, 0, 32 * pages),
         part(&image, 0, fram),
+        packet,
         part(&bytes, 0, open),
         part(&bytes, 0, secret),
     );
@@ -81,27 +91,41 @@ pub fn show_parted_ring() {
 }
 
 pub fn show_fram_bounds() {
-    try_first_save(b"FRAM of 80 bytes", 3, 80, 0, 0);
-    try_first_save(b"FRAM of 84 bytes", 3, 84, 0, 0);
-    try_first_save(b"FRAM of 88 bytes, empty parts", 3, 88, 0, 0);
-    try_first_save(b"FRAM of 88 bytes, a word of open part", 3, 88, 4, 0);
-    try_first_save(b"FRAM of 88 bytes, a word of secret part", 3, 88, 0, 4);
-    try_first_save(b"FRAM of 131072 bytes", 3, 131_072, 0, 0);
-    try_first_save(b"FRAM of 131080 bytes", 3, 131_080, 0, 0);
+    try_first_save(b"FRAM of 80 bytes", 3, 80, 0, 0, 0);
+    try_first_save(b"FRAM of 84 bytes", 3, 84, 0, 0, 0);
+    try_first_save(b"FRAM of 88 bytes, empty parts", 3, 88, 0, 0, 0);
+    try_first_save(b"FRAM of 96 bytes, empty parts", 3, 96, 0, 0, 0);
+    try_first_save(b"FRAM of 96 bytes, a word of open part", 3, 96, 0, 4, 0);
+    try_first_save(b"FRAM of 96 bytes, a word of secret part", 3, 96, 0, 0, 4);
+    try_first_save(b"FRAM of 131072 bytes", 3, 131_072, 0, 0, 0);
+    try_first_save(b"FRAM of 131080 bytes", 3, 131_080, 0, 0, 0);
 }
 
 pub fn show_page_bounds() {
-    try_first_save(b"2 pages", 2, 128, 0, 0);
-    try_first_save(b"3 pages", 3, 128, 0, 0);
-    try_first_save(b"32 pages", 32, 128, 0, 0);
-    try_first_save(b"33 pages", 33, 128, 0, 0);
+    try_first_save(b"2 pages", 2, 128, 0, 0, 0);
+    try_first_save(b"3 pages", 3, 128, 0, 0, 0);
+    try_first_save(b"32 pages", 32, 128, 0, 0, 0);
+    try_first_save(b"33 pages", 33, 128, 0, 0, 0);
 }
 
 pub fn show_part_bounds() {
-    try_first_save(b"open part of 4096 bytes", 3, 131_072, 4096, 0);
-    try_first_save(b"open part of 4097 bytes", 3, 131_072, 4097, 0);
-    try_first_save(b"open part of 4100 bytes", 3, 131_072, 4100, 0);
-    try_first_save(b"secret part of 4096 bytes", 3, 131_072, 0, 4096);
-    try_first_save(b"secret part of 4097 bytes", 3, 131_072, 0, 4097);
-    try_first_save(b"secret part of 4100 bytes", 3, 131_072, 0, 4100);
+    try_first_save(b"open part of 4096 bytes", 3, 131_072, 0, 4096, 0);
+    try_first_save(b"open part of 4097 bytes", 3, 131_072, 0, 4097, 0);
+    try_first_save(b"open part of 4100 bytes", 3, 131_072, 0, 4100, 0);
+    try_first_save(b"secret part of 4096 bytes", 3, 131_072, 0, 0, 4096);
+    try_first_save(b"secret part of 4097 bytes", 3, 131_072, 0, 0, 4097);
+    try_first_save(b"secret part of 4100 bytes", 3, 131_072, 0, 0, 4100);
+}
+
+pub fn show_packet_bounds() {
+    try_first_save(b"packet number 1073741823", 3, 128, 1_073_741_823, 0, 0);
+    try_first_save(b"packet number 1073741824", 3, 128, 1_073_741_824, 0, 0);
+    try_first_save(
+        b"packet number 1073741824, FRAM of 88 bytes",
+        3,
+        88,
+        1_073_741_824,
+        0,
+        0,
+    );
 }

@@ -1,5 +1,5 @@
 // The life of a unit. Saves write its ring once around and power-ups once more; then power is lost twice.
-// Values and nonces are numbers that their bytes repeat.
+// Values and nonces are numbers that their bytes repeat; a save's packet number is its value, so that it is newer each time.
 use crate::print::print;
 use crate::unit::do_first_save;
 use crate::unit::do_power_up;
@@ -10,8 +10,8 @@ use octets::copy;
 use octets::part;
 ghost use Prim.Native.Nat.{_<_};
 
-// A checkpoint's 14 words and its record. A record that opens a page has the page before erased, one store more.
-const STORES: usize = 15;
+// A checkpoint's 15 words and its record. A record that opens a page has the page before erased, one store more.
+pub const STORES: usize = 16;
 
 fn refuse_blank(ring: &mut [u8], fram: &mut [u8]) {
     let none = no_session();
@@ -69,12 +69,12 @@ fn set_byte(image: &mut [u8], at: usize, b: u8) {
     }
 }
 
-// The low byte of word 2 of half A is set to 9, and back.
+// The low byte of the restarts' word of half A is set to 9, and back.
 fn refuse_nine(s: Session, ring: &mut [u8], fram: &mut [u8]) {
     print(b"restarts 9 stored, ");
-    set_byte(fram, 11, 9);
+    set_byte(fram, 15, 9);
     do_power_up(s, 16, STORES, ring, fram);
-    set_byte(fram, 11, 8);
+    set_byte(fram, 15, 8);
 }
 
 fn refuse_restarts(s: Session, ring: &mut [u8], fram: &mut [u8]) {
@@ -92,7 +92,7 @@ fn refuse_old(s: Session, first: Session, ring: &mut [u8], fram: &mut [u8]) {
     do_power_up(s, 16, STORES, ring, fram);
 }
 
-// A save sets the restarts to 0.
+// A save that has heard a newer packet sets the restarts to 0.
 fn save_after_restarts(s: Session, first: Session, ring: &mut [u8], fram: &mut [u8]) -> Session {
     refuse_restarts(s, ring, fram);
     let s = do_save(s, 8, 16, STORES, ring, fram);
@@ -109,7 +109,7 @@ fn lose_words(s: Session, ring: &mut [u8], fram: &mut [u8]) -> Session {
 }
 
 // A session that names what stands at page 0 slot 0.
-fn session_of_first_slot(ring: &[u8]) -> Session {
+fn session_of_first_slot(ring: &[u8], restarts: usize) -> Session {
     let mut latest = [0u8; 16];
     if 16 <= ring.len() {
         copy(part(ring, 0, 16), &mut latest);
@@ -119,13 +119,18 @@ fn session_of_first_slot(ring: &[u8]) -> Session {
         slot: 0,
         latest,
         tag: [0u8; 16],
+        restarts,
+        packet: 0,
     }
 }
 
 fn refuse_made(ring: &mut [u8], fram: &mut [u8]) {
     print(b"with a session of the newest record, ");
-    let made = session_of_first_slot(ring);
+    let made = session_of_first_slot(ring, 8);
     do_save(made, 11, 21, STORES, ring, fram);
+    print(b"the same with 9 restarts, ");
+    let wrong = session_of_first_slot(ring, 9);
+    do_save(wrong, 11, 21, STORES, ring, fram);
 }
 
 // While a page is pending no save begins, whatever its session.
@@ -149,7 +154,7 @@ fn lose_erase(s: Session, ring: &mut [u8], fram: &mut [u8]) -> Session {
 fn end(s: Session, ring: &mut [u8], fram: &mut [u8]) {
     print(b"with one advance more, ");
     do_save(s, 11, 22, STORES + 2, ring, fram);
-    set_byte(fram, 28, 0);
+    set_byte(fram, 32, 0);
     print(b"with a byte of the open part changed, ");
     do_power_up(s, 23, STORES, ring, fram);
 }

@@ -1,8 +1,9 @@
-// Document 01's bench values that are run and not proved, and the life of a unit from its first save on.
+// The papers' bench values that are run and not proved, the life of a unit from its first save on, and that of one whose firmware was updated.
 mod bounds;
 mod life;
 mod print;
 mod unit;
+mod updated;
 mod values;
 
 use keeper::wipe;
@@ -19,9 +20,11 @@ fn main() {
     bounds::show_fram_bounds();
     bounds::show_page_bounds();
     bounds::show_part_bounds();
+    bounds::show_packet_bounds();
     bounds::show_parted_ring();
     let mut ring = [0xFFu8; 96];
     let mut fram = [0u8; 128];
     life::live(&mut ring, &mut fram);
+    updated::live_updated();
     show_wipe();
 }

@@ -89,6 +89,7 @@ fn carry_out(
     }
 }
 
+// A first save, and below a save, with a packet number of the value's.
 fn start_first_save(value: u8, nonce: u8, ring: &[u8], fram: &[u8], staging: &mut [u8]) -> Started {
     keeper::first_save(
         PAGES,
@@ -98,6 +99,7 @@ fn start_first_save(value: u8, nonce: u8, ring: &[u8], fram: &[u8], staging: &mu
         &key(),
         &[nonce; 12],
         &starting_tag(),
+        value as usize,
         &[value; 8],
         &[value; 4],
         staging,
@@ -122,6 +124,7 @@ pub fn do_first_save(
 
 fn start_save(
     session: Session,
+    packet: usize,
     value: u8,
     nonce: u8,
     ring: &[u8],
@@ -135,6 +138,7 @@ fn start_save(
         fram,
         &key(),
         &[nonce; 12],
+        packet,
         &[value; 8],
         &[value; 4],
         staging,
@@ -149,9 +153,23 @@ pub fn do_save(
     ring: &mut [u8],
     fram: &mut [u8],
 ) -> Session {
+    do_save_hearing(session, value as usize, value, nonce, advances, ring, fram)
+}
+
+// A save that has last heard a packet.
+pub fn do_save_hearing(
+    session: Session,
+    packet: usize,
+    value: u8,
+    nonce: u8,
+    advances: usize,
+    ring: &mut [u8],
+    fram: &mut [u8],
+) -> Session {
     print_number(b"save of ", value as usize);
+    print_number(b", packet ", packet);
     let mut staging = [0u8; 64];
-    let started = start_save(session, value, nonce, ring, fram, &mut staging);
+    let started = start_save(session, packet, value, nonce, ring, fram, &mut staging);
     let next = carry_out(started, session, advances, ring, fram, &staging);
     print_memories(ring, fram);
     next

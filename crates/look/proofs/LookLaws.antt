@@ -12,28 +12,16 @@ use Rattle.stops.specs.Stops.{first-of, then-stop}
 use Rattle.stops.proofs.Laws.{tried, tried-first, first-append, no-lines, one-more, passes}
 use Rattle.ring.specs.Ring.{Newest, ring-wrong, read-ring, is-blank, is-unreadable, newest-record, half-named}
 use Rattle.ring.proofs.NewestLaws.{newest-half-fits}
-use Rattle.checkpoint.specs.Checkpoint.{head-length}
+use Rattle.checkpoint.specs.Checkpoint.{Longer, head-length}
 use Rattle.checkpoint.specs.Fram.{fram-wrong, half-length, half-at}
 use Rattle.checkpoint.proofs.FramLaws.{half-within, half-long}
 use Rattle.checkpoint.proofs.StoredLaws.{head-facts}
-use Rattle.checkpoint.specs.Half.{open-length, stored-restarts}
-use Rattle.protocol.specs.Types.{Restarts, Unseen}
+use Rattle.checkpoint.specs.Half.{form-of, open-length, stored-restarts}
 use Rattle.protocol.specs.Operations.{newest-half, look-stop, look, look-by, open-stretch, stretch-by}
 use Rattle.look.specs.View.{view-looked, view-stretch, looks}
 use Rattle.look.specs.Stages.{look-buffers, look-half}
 use Rattle.look.specs.Seen.{Sees}
 use Rattle.look.specs.declared.types.Seen.{Seen}
-
--- what an answer says of the stop
-pub by-unseen : (o : Option ℕ) (r s : ℕ) → Unseen s ≡ look-by o r → o ≡ some s
-unfolding look-by
-by-unseen (some t) r s e = ap some (cc)
-by-unseen none r s e = let z : _≡_ {A = ℕ} 0 1 = cc in absurd (omega arith)
-
-pub by-restarts : (o : Option ℕ) (r n : ℕ) → Restarts n ≡ look-by o r → (none ≡ o) × (n ≡ r)
-unfolding look-by
-by-restarts (some t) r n e = let z : _≡_ {A = ℕ} 0 1 = cc in absurd (omega arith)
-by-restarts none r n e = (refl, cc)
 
 module _ (pages slots : ℕ) (ring fram key : List ℕ) where
   abbrev read : Newest
@@ -42,8 +30,11 @@ module _ (pages slots : ℕ) (ring fram key : List ℕ) where
   abbrev newest : List ℕ
   newest = newest-record ring slots read
 
+  abbrev half : List ℕ
+  half = half-at fram (half-named newest)
+
   abbrev stop : Option ℕ
-  stop = look-stop ring fram (looks pages slots key)
+  stop = look-stop Longer ring fram (looks pages slots key)
 
   abbrev pub ring-lines : List (ℕ × Bool)
   ring-lines = (6, is-blank read) ∷ (7, is-unreadable read) ∷ []
@@ -94,30 +85,30 @@ module _ (pages slots : ℕ) (ring fram key : List ℕ) where
   -- ---- what look and its companion answer
 
   pub sees : (s : Seen) {o : Option ℕ} → stop ≡ o → Sees s o fram (half-named newest)
-      → (view-looked (s .looked) ≡ look ring fram (looks pages slots key)) × (view-stretch s ≡ open-stretch ring fram (looks pages slots key))
+      → (view-looked (s .looked) ≡ look Longer ring fram (looks pages slots key)) × (view-stretch s ≡ open-stretch Longer ring fram (looks pages slots key))
   unfolding look open-stretch newest-half
   sees s e f = (
-    f .looked ∙ sym (ap (λ (o : Option ℕ). look-by o (stored-restarts (half-at fram (half-named newest)))) e),
-    f .stretch ∙ sym (ap (λ (o : Option ℕ). stretch-by o (half-named newest * half-length fram + head-length) (open-length (half-at fram (half-named newest)))) e),
+    f .looked ∙ sym (ap (λ (o : Option ℕ). look-by o (stored-restarts (form-of half) half)) e),
+    f .stretch ∙ sym (ap (λ (o : Option ℕ). stretch-by o (half-named newest * half-length fram + head-length (form-of half)) (open-length (form-of half) half)) e),
   )
 
   pub sees-half : (s : Seen) (rec : List ℕ) → rec ≡ newest → first-of (look-buffers pages slots ring fram key) ≡ none → first-of ring-lines ≡ none
       → Sees s (first-of (look-half key rec fram)) fram (half-named rec)
-      → (view-looked (s .looked) ≡ look ring fram (looks pages slots key)) × (view-stretch s ≡ open-stretch ring fram (looks pages slots key))
+      → (view-looked (s .looked) ≡ look Longer ring fram (looks pages slots key)) × (view-stretch s ≡ open-stretch Longer ring fram (looks pages slots key))
   sees-half s rec e b r f = sees s (on-half b r) (subst (λ (l : List ℕ). Sees s (first-of (look-half key l fram)) fram (half-named l)) e f)
 
   -- the open part lies within the image
   fits : (o : Option ℕ) → stop ≡ o
-      → (let z = stretch-by o (half-named newest * half-length fram + head-length) (open-length (half-at fram (half-named newest))) in z .offset + z .length ≤ length fram)
+      → (let z = stretch-by o (half-named newest * half-length fram + head-length (form-of half)) (open-length (form-of half) half) in z .offset + z .length ≤ length fram)
   unfolding stretch-by look-stop newest-half
   fits (some s) e = omega arith
   fits none e =
       let p = passes _ e in
-      let half = p .1 .1 .1 in
-      let h : half-named newest < 2 = newest-half-fits pages slots ring (p .0) (half .0) (half .1 .0) in
-      let good = head-facts (half-at fram (half-named newest)) (not-false _ (half .1 .1 .0)) in
+      let lines = p .1 .1 .1 in
+      let h : half-named newest < 2 = newest-half-fits pages slots ring (p .0) (lines .0) (lines .1 .0) in
+      let good = head-facts (form-of half) half (not-false _ (lines .1 .1 .0)) in
       omega (arith, good .fits, half-long fram (half-named newest) (p .1 .0) (omega arith), half-within fram (half-named newest) (p .1 .0) (omega arith))
 
-  pub stretch-within : (let z = open-stretch ring fram (looks pages slots key) in z .offset + z .length ≤ length fram)
+  pub stretch-within : (let z = open-stretch Longer ring fram (looks pages slots key) in z .offset + z .length ≤ length fram)
   unfolding open-stretch newest-half
   stretch-within = fits stop refl

@@ -2,9 +2,9 @@
 mod looking;
 mod types;
 
+pub use looking::check_half;
 pub use looking::look;
 pub use looking::open_part;
 pub use looking::see;
-pub use looking::see_half;
 pub use types::Looked;
 pub use types::Seen;

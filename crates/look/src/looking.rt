@@ -4,7 +4,6 @@ use crate::types::Seen;
 use checkpoint::fram::half_at;
 use checkpoint::half::Head;
 use checkpoint::half::read_head;
-use checkpoint::layout::HEAD_LENGTH;
 use checkpoint::under::good_tag_under;
 use gcm::key_wrong;
 use memories::check_memories;
@@ -24,20 +23,21 @@ ghost use Rattle.octets.specs.Limits.{key-length, nonce-length, slot-length};
 ghost use Rattle.stops.specs.Stops.{first-of};
 ghost use Rattle.stops.specs.View.{check-number, stop-number};
 ghost use Rattle.ring.specs.Ring.{half-named};
+ghost use Rattle.checkpoint.specs.Checkpoint.{Longer, head-length};
 ghost use Rattle.checkpoint.specs.Fram.{fram-wrong};
-ghost use Rattle.checkpoint.specs.Half.{open-length, secret-length, good-head};
+ghost use Rattle.checkpoint.specs.Half.{form-of, open-length, secret-length, good-head};
 ghost use Rattle.protocol.specs.Operations.{look, open-stretch, stretch-of};
 ghost use Rattle.look.specs.View.{view-looked, view-stretch, looks};
 ghost use Rattle.look.specs.Stages.{look-buffers, of-half, look-half};
 ghost use Rattle.look.specs.Seen.{Sees};
 
 // Stops 11 and 12 of a half, whose head was read.
-fn check_half(key: &[u8], nonce: &[u8], half: &[u8], head: Head) -> Check
-    requires { ⌜ (length (now key) ≡ key-length) × (length (now nonce) ≡ nonce-length) × (head .good ≡ good-head (now half)) × (head .«open» ≡ open-length (now half)) × (head .secret ≡ secret-length (now half)) ⌝ }
+pub fn check_half(key: &[u8], nonce: &[u8], half: &[u8], head: Head) -> Check
+    requires { ⌜ (length (now key) ≡ key-length) × (length (now nonce) ≡ nonce-length) × (head .good ≡ good-head (form-of (now half)) (now half)) × (head .start ≡ head-length (form-of (now half))) × (head .«open» ≡ open-length (form-of (now half)) (now half)) × (head .secret ≡ secret-length (form-of (now half)) (now half)) ⌝ }
     ensures { λ r. ⌜ check-number r ≡ first-of (of-half (now (key .entry)) (now (nonce .entry)) (now (half .entry))) ⌝ }
 {
     if head.good {
-        let good = good_tag_under(key, nonce, half, head.open, head.secret);
+        let good = good_tag_under(key, nonce, half, head.start, head.open, head.secret);
         return Check::Pass.stop_if(!good, Stop::TagDiffers);
     }
     Check::Stopped(Stop::BadHead)
@@ -55,7 +55,7 @@ fn unseen(stop: Stop) -> Seen
 }
 
 // The half that a record names: stops 11 and 12, or its restarts and open part.
-pub fn see_half(record: &[u8], fram: &[u8], key: &[u8]) -> Seen
+fn see_half(record: &[u8], fram: &[u8], key: &[u8]) -> Seen
     requires { ⌜ (fram-wrong (now fram) ≡ false) × (length (now key) ≡ key-length) × (length (now «record») ≡ slot-length) × (half-named (now «record») ≤ 1) ⌝ }
     ensures { λ r. ⌜ Sees r (first-of (look-half (now (key .entry)) (now («record» .entry)) (now (fram .entry)))) (now (fram .entry)) (half-named (now («record» .entry))) ⌝ }
 {
@@ -67,7 +67,7 @@ pub fn see_half(record: &[u8], fram: &[u8], key: &[u8]) -> Seen
         Check::Stopped(stop) => unseen(stop),
         Check::Pass => Seen {
             looked: Looked::Restarts(head.restarts),
-            offset: number * (fram.len() / 2) + HEAD_LENGTH,
+            offset: number * (fram.len() / 2) + head.start,
             length: head.open,
         },
     }
@@ -76,7 +76,7 @@ pub fn see_half(record: &[u8], fram: &[u8], key: &[u8]) -> Seen
 // The newest checkpoint, where stops 1, 2 and 3 do not apply.
 fn see_newest(pages: usize, slots: usize, ring: &[u8], fram: &[u8], key: &[u8]) -> Seen
     requires { ⌜ first-of (look-buffers pages slots (now ring) (now fram) (now key)) ≡ none ⌝ }
-    ensures { λ r. ⌜ (view-looked (r .looked) ≡ look (now (ring .entry)) (now (fram .entry)) (looks pages slots (now (key .entry)))) × (view-stretch r ≡ open-stretch (now (ring .entry)) (now (fram .entry)) (looks pages slots (now (key .entry)))) ⌝ }
+    ensures { λ r. ⌜ (view-looked (r .looked) ≡ look Longer (now (ring .entry)) (now (fram .entry)) (looks pages slots (now (key .entry)))) × (view-stretch r ≡ open-stretch Longer (now (ring .entry)) (now (fram .entry)) (looks pages slots (now (key .entry)))) ⌝ }
 {
     let newest = read_ring(ring, pages, slots);
     let check = Check::Pass
@@ -90,7 +90,7 @@ fn see_newest(pages: usize, slots: usize, ring: &[u8], fram: &[u8], key: &[u8]) 
 
 // What look answers, and where the open part lies in the FRAM image.
 pub fn see(pages: usize, slots: usize, ring: &[u8], fram: &[u8], key: &[u8]) -> Seen
-    ensures { λ r. ⌜ (view-looked (r .looked) ≡ look (now (ring .entry)) (now (fram .entry)) (looks pages slots (now (key .entry)))) × (view-stretch r ≡ open-stretch (now (ring .entry)) (now (fram .entry)) (looks pages slots (now (key .entry)))) ⌝ }
+    ensures { λ r. ⌜ (view-looked (r .looked) ≡ look Longer (now (ring .entry)) (now (fram .entry)) (looks pages slots (now (key .entry)))) × (view-stretch r ≡ open-stretch Longer (now (ring .entry)) (now (fram .entry)) (looks pages slots (now (key .entry)))) ⌝ }
 {
     let check = check_memories(ring, pages, slots, fram).stop_if(
         key_wrong(key.len()),
@@ -104,7 +104,7 @@ pub fn see(pages: usize, slots: usize, ring: &[u8], fram: &[u8], key: &[u8]) -> 
 
 // Answers the restarts of the newest checkpoint, or stops with 1, 2, 3, 6, 7, 11 or 12.
 pub fn look(pages: usize, slots: usize, ring: &[u8], fram: &[u8], key: &[u8]) -> Looked
-    ensures { λ r. ⌜ view-looked r ≡ look (now (ring .entry)) (now (fram .entry)) (looks pages slots (now (key .entry))) ⌝ }
+    ensures { λ r. ⌜ view-looked r ≡ look Longer (now (ring .entry)) (now (fram .entry)) (looks pages slots (now (key .entry))) ⌝ }
 {
     let seen = see(pages, slots, ring, fram, key);
     seen.looked
@@ -118,7 +118,7 @@ pub fn open_part<'a>(
     fram: &'a [u8],
     key: &[u8],
 ) -> &'a [u8]
-    ensures { λ r. ⌜ now r ≡ stretch-of (now (fram .entry)) (open-stretch (now (ring .entry)) (now (fram .entry)) (looks pages slots (now (key .entry)))) ⌝ }
+    ensures { λ r. ⌜ now r ≡ stretch-of (now (fram .entry)) (open-stretch Longer (now (ring .entry)) (now (fram .entry)) (looks pages slots (now (key .entry)))) ⌝ }
 {
     let seen = see(pages, slots, ring, fram, key);
     part(fram, seen.offset, seen.length)

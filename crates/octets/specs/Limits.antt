@@ -1,7 +1,7 @@
 -- The limits and lengths of documents 01 and 02, each named here and, for the code, in src/limits.rt. Elsewhere in the libraries one of
 -- them stands as a numeral only in the types of arrays (a nonce of 12 bytes, a tag or a slot of 16), in Layout.antt of checkpoint, which
--- gives document 01's offsets as numbers of their own, where aes and gcm have the standards' numbers, and in Format.antt of intel_hex,
--- which has that format's.
+-- gives the papers' offsets as numbers of their own, in Older.antt of protocol, which writes document 01's lists out, where aes and gcm
+-- have the standards' numbers, and in Format.antt of intel_hex, which has that format's.
 -- Lengths are in bytes; a word is 4.
 use Prim.Native.Nat.{ℕ}
 
@@ -39,6 +39,10 @@ part-limit = 4096
 
 abbrev pub restart-limit : ℕ
 restart-limit = 8
+
+-- the largest packet number, 2^30 − 1 (document 02, A.2)
+abbrev pub packet-limit : ℕ
+packet-limit = 1073741823
 
 -- ---- the cipher
 abbrev pub key-length : ℕ

@@ -23,6 +23,8 @@ pub const PART_LIMIT: usize = 4096;
 
 pub const RESTART_LIMIT: usize = 8;
 
+pub const PACKET_LIMIT: usize = 1_073_741_823;
+
 // The cipher; TEXT_LIMIT is that of a text and of associated data, sealed and opened alone.
 pub const KEY_LENGTH: usize = 32;
 

@@ -7,9 +7,9 @@ use crate::plan::cut_again;
 use crate::plan::cut_number;
 use crate::print::print;
 use crate::print::print_count;
+use crate::print::print_counts;
 use crate::print::print_cut;
 use crate::print::print_place;
-use crate::print::print_restarts;
 use crate::print::print_ring;
 use crate::print::print_save;
 use crate::tally::Tally;
@@ -23,7 +23,7 @@ use octets::fill;
 use octets::part;
 
 fn save_whole(unit: Unit, ring: &mut [u8], fram: &mut [u8]) -> Unit {
-    let mut staging = [0u8; 60];
+    let mut staging = [0u8; 64];
     let begun = unit.begin_save(ring, fram, &mut staging);
     begun.run(20, ring, fram, &staging)
 }
@@ -92,7 +92,7 @@ fn cut_unit(first: Unit, k: usize, ring: &mut [u8], fram: &mut [u8]) -> Unit {
     print_cut(k);
     let c = cut_number(k);
     let left = c.left;
-    let mut staging = [0u8; 60];
+    let mut staging = [0u8; 64];
     let unit = run_to(first, c, ring, fram, &mut staging);
     cut_power(unit, left, k, ring, fram, &staging)
 }
@@ -104,9 +104,9 @@ fn print_resumed(unit: Unit, ring: &[u8], fram: &[u8], state: &[u8]) {
         print(part(state, 0, PART));
     }
     if unit.agrees {
-        print_restarts(b" same  ", unit.restarts());
+        print_counts(b" same  ", unit.restarts(), unit.packet());
     } else {
-        print_restarts(b" DIFFERS  ", unit.restarts());
+        print_counts(b" DIFFERS  ", unit.restarts(), unit.packet());
     }
 }
 
@@ -122,7 +122,7 @@ fn print_stopped(unit: Unit) {
         print(b"nothing recorded: stop 6\n");
     } else {
         print_count(b"ALERT: stop ", unit.stop as usize);
-        print_restarts(b"          ", unit.restarts());
+        print_counts(b"          ", unit.restarts(), unit.packet());
     }
     if unit.agrees {
         return;
@@ -143,7 +143,7 @@ fn stopped(unit: Unit, ring: &mut [u8]) -> Unit {
 
 // A power-up that runs to its end, or stops.
 fn power_up(unit: Unit, ring: &mut [u8], fram: &mut [u8]) -> Unit {
-    let mut staging = [0u8; 60];
+    let mut staging = [0u8; 64];
     let mut state = [0u8; 4096];
     let begun = unit.begin_power_up(ring, fram, &mut staging, &mut state);
     if begun.stop != 0 {

@@ -14,7 +14,10 @@ use print::print;
 
 fn print_heading() {
     print(
-        b"A ring of 3 pages of 2 slots, a FRAM of 120 bytes. Save 12 saves 'volume 2' and, sealed, 'timer 12'.\n",
+        b"A ring of 3 pages of 2 slots, a FRAM of 128 bytes. Save 12 saves 'volume 2' and, sealed, 'timer 12'.\n",
+    );
+    print(
+        b"packet: a save hears the packet of its own number; from save 42 on only repeats of 41, which keep the restarts.\n",
     );
     print(
         b"left: what the cut left of the word, slot or page being stored; '-': it fell between two calls.\n",
@@ -23,7 +26,7 @@ fn print_heading() {
         b"same: byte for byte the checkpoint recorded last, by a book that never sees the memories.\n\n",
     );
     print(
-        b"cut  call        power failed in    left     the ring then reads                resumed          restarts\n",
+        b"cut  call        power failed in    left     the ring then reads                resumed          restarts packet\n",
     );
 }
 
@@ -37,7 +40,7 @@ fn main() {
         return;
     }
     let mut ring = [0xFFu8; 96];
-    let mut fram = [0u8; 120];
+    let mut fram = [0u8; 128];
     print_heading();
     let tally = cut_all(last, &mut ring, &mut fram);
     tally.print(last);

@@ -35,9 +35,11 @@ pub fn print_cut(k: usize) {
     print(b"  ");
 }
 
-// The restarts, at the end of a line.
-pub fn print_restarts(name: &[u8], n: usize) {
-    print_count(name, n);
+// The restarts and the packet number, at the end of a line.
+pub fn print_counts(name: &[u8], restarts: usize, packet: usize) {
+    print_count(name, restarts);
+    print(b"        ");
+    print_two(packet);
     print(b"\n");
 }
 
@@ -58,7 +60,7 @@ fn print_word(job: Job, word: usize) {
     } else {
         print(b"B word ");
     }
-    print_two(word % 15 + 1);
+    print_two(word % 16 + 1);
     print(b" of ");
     print_two(job.length / 4);
     print(b"    ");
@@ -84,7 +86,7 @@ fn print_store(job: Job) {
 
 fn print_before_word(word: usize) {
     print(b"before word ");
-    print_two(word % 15 + 1);
+    print_two(word % 16 + 1);
     print(b"     ");
 }
 

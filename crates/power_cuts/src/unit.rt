@@ -9,6 +9,7 @@ use demo_book::values::key;
 use demo_book::values::nonce;
 use demo_book::values::one_more;
 use demo_book::values::open_text;
+use demo_book::values::packet;
 use demo_book::values::record;
 use demo_book::values::secret_text;
 use demo_book::values::starting_tag;
@@ -51,6 +52,7 @@ fn start_first_save(unit: Unit, ring: &[u8], fram: &[u8], staging: &mut [u8]) ->
         &key(),
         &nonce(unit.starts),
         &starting_tag(),
+        packet(unit.saves) as usize,
         &open_text(unit.saves),
         &secret_text(unit.saves),
         staging,
@@ -66,6 +68,7 @@ fn start_save(unit: Unit, ring: &[u8], fram: &[u8], staging: &mut [u8]) -> Start
         fram,
         &key(),
         &nonce(unit.starts),
+        packet(unit.saves) as usize,
         &open_text(unit.saves),
         &secret_text(unit.saves),
         staging,
@@ -208,7 +211,7 @@ impl Unit {
         unit.stop = stop_of(start);
         if unit.stop == 0 {
             let book = unit.book;
-            let told = book.saved(unit.saves, unit.starts);
+            let told = book.saved(unit.saves, packet(unit.saves), unit.starts);
             unit.book = told;
         } else {
             unit.agrees = false;
@@ -327,6 +330,13 @@ impl Unit {
         let told = book.cut_into(blank);
         unit.book = told;
         unit
+    }
+
+    // The packet number of the checkpoint recorded last.
+    pub fn packet(self) -> usize {
+        let book = self.book;
+        let entry = book.entry;
+        entry.packet as usize
     }
 
     // The restarts of the checkpoint recorded last.

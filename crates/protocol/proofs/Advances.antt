@@ -19,7 +19,7 @@ use Rattle.ring.specs.Ring.{page-put, ring-wrong, page-before, page-erased}
 use Rattle.ring.proofs.RingLaws.{erase-pending}
 use Rattle.ring.proofs.TurnLaws.{before-laws}
 use Rattle.ring.proofs.SizeLaws.{sized}
-use Rattle.checkpoint.specs.Checkpoint.{Checkpoint, empty-length, sealed}
+use Rattle.checkpoint.specs.Checkpoint.{Form, Checkpoint, empty-length, sealed-length, sealed}
 use Rattle.checkpoint.specs.Half.{stored}
 use Rattle.checkpoint.specs.Fram.{fram-wrong, half-length}
 use Rattle.checkpoint.proofs.FramLaws.{fram-kept, half-kept, half-within, halves-apart}
@@ -37,29 +37,31 @@ call u h = record { sizes = u .sizes; job = h .job; staging = h .staging }
 
 -- what that advance leaves, and its answer: `rest` is to come of the draft of c
 abbrev pub Moves : Setup → State → Handed → Checkpoint → Origin → List Store → Type 0
-Moves u s h c origin rest = Moving u (step u s (advanced-by (call u h))) (advance (s .ring) (s .fram) (call u h) .progress) c origin rest
+Moves u s h c origin rest = Moving u (step u s (advanced-by (call u h))) (advance (s .form) (s .ring) (s .fram) (call u h) .progress) c origin rest
 
 module _ {u : Setup} {s : State} {h : Handed} {n : ℕ} {stores : List Store} (inv : Holds u s) (w : Working u s h n stores) where
-  pub job-right : phase-wrong (h .job .phase) (h .job) (u .sizes) (s .ring) ≡ false → job-wrong (h .job) (u .sizes) (s .ring) (s .fram) ≡ false
+  pub job-right : phase-wrong (h .job .phase) (h .job) (u .sizes) (s .ring) ≡ false → job-wrong (s .form) (h .job) (u .sizes) (s .ring) (s .fram) ≡ false
   unfolding job-wrong
   job-right e =
       let z = sized (u .sizes .pages) (u .sizes .slots) (s .ring) (inv .ring-right) .numbers in
       let l = length-good (u .key) (w .good) in
       let g = w .good in
       let l4 : h .job .length % 4 ≡ 0 = rw (w .length-is, l) (omega (arith, g .range)) in
-      let l44 : ltb (h .job .length) empty-length ≡ false = le-ltb (h .job .length) empty-length (rw (w .length-is, l) (omega arith)) in
+      let least : empty-length (s .form) ≤ h .job .length =
+      rw (w .length-is, l) (subst (λ (f : Form). empty-length f ≤ sealed-length (w .c .form) (length (w .c .open-part)) (length (w .c .secret))) (w .form-is) (omega arith)) in
+      let l44 : ltb (h .job .length) (empty-length (s .form)) ≡ false = le-ltb (h .job .length) (empty-length (s .form)) least in
       let lh : ltb (half-length (s .fram)) (h .job .length) ≡ false = le-ltb (half-length (s .fram)) (h .job .length) (rw (w .length-is, l) (g .fits)) in
       let p : leb (u .sizes .pages) (h .job .page) ≡ false = lt-leb (u .sizes .pages) (h .job .page) (rw (w .page-is) (mod-lt _ (omega arith))) in
       let q : leb (u .sizes .slots) (h .job .slot) ≡ false = lt-leb (u .sizes .slots) (h .job .slot) (rw (w .slot-is) (mod-lt _ (omega arith))) in
       let r : ltb 1 (h .job .half) ≡ false = le-ltb 1 (h .job .half) (rw (w .half-is) (omega arith)) in
       rw (eq-eqb (h .job .length % 4) 0 l4, l44, lh, p, q, r) e
 
-  pub advance-passes : phase-wrong (h .job .phase) (h .job) (u .sizes) (s .ring) ≡ false → advance-stop (s .ring) (s .fram) (call u h) ≡ none
+  pub advance-passes : phase-wrong (h .job .phase) (h .job) (u .sizes) (s .ring) ≡ false → advance-stop (s .form) (s .ring) (s .fram) (call u h) ≡ none
   unfolding advance-stop first-of staging-wrong
   advance-passes e = rw (inv .ring-right, inv .fram-right, le-ltb (length (h .staging)) (half-length (s .fram)) (w .staging-long), job-right e)
 
   pub advance-stores : (p : Phase) → h .job .phase ≡ p → phase-wrong p (h .job) (u .sizes) (s .ring) ≡ false
-      → advance (s .ring) (s .fram) (call u h) ≡ store p (s .ring) (s .fram) (call u h)
+      → advance (s .form) (s .ring) (s .fram) (call u h) ≡ store p (s .ring) (s .fram) (call u h)
   unfolding advance advance-by
   advance-stores p e f =
       rw (advance-passes (subst (λ (q : Phase). phase-wrong q (h .job) (u .sizes) (s .ring) ≡ false) (sym e) f))
@@ -75,19 +77,20 @@ after s h p ring fram sessions j = record {
   sessions = sessions;
   nonces = s .nonces;
   journal = j;
+  form = s .form;
 }
 
 module _ (u : Setup) (s : State) (h : Handed) (P : State → Progress → Type 0) where
   pub after-going : (p : Phase) (ring fram : List ℕ) (j : Journal)
-      → advance (s .ring) (s .fram) (call u h) ≡ going-on (h .job) p ring fram → advanced (s .journal) (s .journal .draft) ≡ j
-      → P (after s h p ring fram (s .sessions) j) GoingOn → P (step u s (advanced-by (call u h))) (advance (s .ring) (s .fram) (call u h) .progress)
+      → advance (s .form) (s .ring) (s .fram) (call u h) ≡ going-on (h .job) p ring fram → advanced (s .journal) (s .journal .draft) ≡ j
+      → P (after s h p ring fram (s .sessions) j) GoingOn → P (step u s (advanced-by (call u h))) (advance (s .form) (s .ring) (s .fram) (call u h) .progress)
   unfolding step left-by entered refused is-stopped moved going-on
   after-going p ring fram j e f x = rw (e, f) x
 
   pub after-ended : (o : Origin) (ring fram : List ℕ) (j : Journal) → h .job .origin ≡ o
-      → advance (s .ring) (s .fram) (call u h) ≡ ended (h .job) ring fram → advanced (s .journal) (s .journal .draft) ≡ j
+      → advance (s .form) (s .ring) (s .fram) (call u h) ≡ ended (h .job) ring fram → advanced (s .journal) (s .journal .draft) ≡ j
       → P (after s h Done ring fram (session-of (h .job) ∷ s .sessions) j) (finished o)
-      → P (step u s (advanced-by (call u h))) (advance (s .ring) (s .fram) (call u h) .progress)
+      → P (step u s (advanced-by (call u h))) (advance (s .form) (s .ring) (s .fram) (call u h) .progress)
   unfolding step left-by entered refused is-stopped moved ended finished
   after-ended Save ring fram j o e f x =
       rw e (subst (λ (q : Origin). P (moved s (finished q) (ended (h .job) ring fram) (h .staging)
@@ -99,12 +102,13 @@ module _ (u : Setup) (s : State) (h : Handed) (P : State → Progress → Type 0
 -- a job in its next phase
 unfoldable pub working-on : {u : Setup} {s : State} {h : Handed} {n : ℕ} {stores : List Store} (t : State) (rest : List Store) (p : Phase) (w : Working u s h n stores)
     → t .journal .draft ≡ some (draft-of (w .c) (w .origin) rest)
-    → half-length (t .fram) ≡ half-length (s .fram) → t .nonces ≡ s .nonces
+    → half-length (t .fram) ≡ half-length (s .fram) → t .nonces ≡ s .nonces → s .form ≡ t .form
     → Working u t (record { job = in-phase (h .job) p; staging = h .staging }) n rest
 unfolding in-phase
-working-on t rest p w d l m = record {
+working-on t rest p w d l m f = record {
   c = w .c;
   origin = w .origin;
+  form-is = w .form-is ∙ f;
   draft-is = d;
   good = rw l (w .good);
   nonce-known = rw m (w .nonce-known);
@@ -115,6 +119,8 @@ working-on t rest p w d l m = record {
   slot-is = w .slot-is;
   nonce-is = w .nonce-is;
   tag-is = w .tag-is;
+  restarts-is = w .restarts-is;
+  packet-is = w .packet-is;
   staging-long = rw l (w .staging-long);
   staged = w .staged;
 }
@@ -176,6 +182,7 @@ module _ (u : Setup) (s : State) (h : Handed) (inv : Holds u s) where
           durable = d .1;
           sessions-known = inv .sessions-known;
           sessions-match = inv .sessions-match;
+          reads-entry = inv .reads-entry;
           doing = doing-of u t k refl writing;
         };
         answered = refl;
@@ -203,7 +210,7 @@ module _ (u : Setup) (s : State) (h : Handed) (inv : Holds u s) where
         draft = some (draft-of (w .c) (w .origin) rest);
       }
 
-      moves : advance (s .ring) (s .fram) (call u h) ≡ going-on (h .job) (Words 0) ring (s .fram)
+      moves : advance (s .form) (s .ring) (s .fram) (call u h) ≡ going-on (h .job) (Words 0) ring (s .fram)
       moves = advance-stores inv w (EraseFirst p) e (page-right u s p inv (x .page-is))
 
       k : Handed
@@ -221,7 +228,7 @@ module _ (u : Setup) (s : State) (h : Handed) (inv : Holds u s) where
         left = x .left;
         left-is = omega (arith, x .left-is);
         before = record {
-          working = working-on t rest (Words 0) w refl refl refl;
+          working = working-on t rest (Words 0) w refl refl refl refl;
           unlike = x .before .unlike;
         };
         owed = refl;
@@ -325,7 +332,7 @@ module _ {u : Setup} {s : State} {h : Handed} {rest : List Store} (inv : Holds u
   word-long : length (part (h .staging) (4 * w) 4) ≡ 4
   word-long = length-part (h .staging) (4 * w) 4 (omega (arith, sealed-within, x .working .staging-long))
 
-  word-kept : length (stored-word (s .fram) (h .staging) (h .job) w) ≡ length (s .fram)
+  pub word-kept : length (stored-word (s .fram) (h .staging) (h .job) w) ≡ length (s .fram)
   unfolding stored-word
   word-kept = length-put (s .fram) (h .job .half * half-length (s .fram) + 4 * w) (part (h .staging) (4 * w) 4)
       (omega (arith, word-long, sealed-within, half-within (s .fram) (h .job .half) (inv .fram-right) (rw (x .working .half-is) (omega arith))))
@@ -341,7 +348,7 @@ module _ {u : Setup} {s : State} {h : Handed} {rest : List Store} (inv : Holds u
   unfolding working-on
   word-before p = record {
     working = working-on (word-state s h w p (x .working .c) (x .working .origin) rest) rest p (x .working) refl
-        (half-kept (s .fram) (stored-word (s .fram) (h .staging) (h .job) w) word-kept) refl;
+        (half-kept (s .fram) (stored-word (s .fram) (h .staging) (h .job) w) word-kept) refl refl;
     unlike = x .unlike;
   }
 
@@ -365,6 +372,7 @@ module _ {u : Setup} {s : State} {h : Handed} {rest : List Store} (inv : Holds u
           durable = word-durable;
           sessions-known = inv .sessions-known;
           sessions-match = inv .sessions-match;
+          reads-entry = inv .reads-entry;
           doing = doing-of u t (next-job h p) refl doing;
         };
         answered = answer rest more;
@@ -384,7 +392,7 @@ module _ {u : Setup} {s : State} {h : Handed} {rest : List Store} (inv : Holds u
       answer [] f = absurd (f refl)
       answer (y ∷ r) f = refl
 
-      moves : advance (s .ring) (s .fram) (call u h) ≡ going-on (h .job) p (s .ring) fram
+      moves : advance (s .form) (s .ring) (s .fram) (call u h) ≡ going-on (h .job) p (s .ring) fram
       moves = advance-stores inv (x .working) (Words w) e (lt-leb (h .job .length) (4 * w) (omega arith))
           ∙ ap (λ (q : Phase). going-on (h .job) q (s .ring) fram) next
 

@@ -9,7 +9,7 @@ use lib.ListN.{length}
 use lib.Dec.{eqb, ltb, leb, T}
 use Rattle.stops.proofs.Laws.{neither, passes}
 use Rattle.ring.specs.Ring.{ring-wrong, page-erased}
-use Rattle.checkpoint.specs.Checkpoint.{Checkpoint, empty-length}
+use Rattle.checkpoint.specs.Checkpoint.{Form, Checkpoint, empty-length}
 use Rattle.checkpoint.specs.Fram.{half-length}
 use Rattle.protocol.specs.Types.{Save, PowerUp, Origin, Phase, EraseFirst, Words, Record, EraseAfter, Done, Job}
 use Rattle.protocol.specs.Calls.{Setup, advanced-by, Sizes, Advances}
@@ -35,6 +35,7 @@ module _ (u : Setup) (s : State) (h : Handed) (inv : Holds u s) where
           durable = d .1;
           sessions-known = more-known (x .working) (inv .sessions-known);
           sessions-match = λ z m c q. more-match (x .working) (λ y n l. inv .sessions-match y n (x .working .c) (x .recorded) l) z m c (sym (x .recorded) ∙ q);
+          reads-entry = inv .reads-entry;
           doing = doing-of u t k refl (draft, refl, refl);
         };
         answered = refl;
@@ -53,7 +54,7 @@ module _ (u : Setup) (s : State) (h : Handed) (inv : Holds u s) where
       j : Journal
       j = record { entry = s .journal .entry; count = s .journal .count; owed = false; power-ups = s .journal .power-ups; draft = some draft }
 
-      moves : advance (s .ring) (s .fram) (call u h) ≡ ended (h .job) ring (s .fram)
+      moves : advance (s .form) (s .ring) (s .fram) (call u h) ≡ ended (h .job) ring (s .fram)
       moves = advance-stores inv (x .working) (EraseAfter p) e (page-right u s p inv (x .page-is))
 
       k : Handed
@@ -107,29 +108,29 @@ going origin (x ∷ rest) = refl
 
 -- ---- every advance of the job handed out last
 
-phase-passes : (j : Job) (z : Sizes) (ring fram : List ℕ) → job-wrong j z ring fram ≡ false → phase-wrong (j .phase) j z ring ≡ false
+phase-passes : (form : Form) (j : Job) (z : Sizes) (ring fram : List ℕ) → job-wrong form j z ring fram ≡ false → phase-wrong (j .phase) j z ring ≡ false
 unfolding job-wrong
-phase-passes j z ring fram e =
-    neither (not (eqb (j .length % 4) 0) || ltb (j .length) empty-length || ltb (half-length fram) (j .length) ||
+phase-passes form j z ring fram e =
+    neither (not (eqb (j .length % 4) 0) || ltb (j .length) (empty-length form) || ltb (half-length fram) (j .length) ||
     leb (z .pages) (j .page) || leb (z .slots) (j .slot) || ltb 1 (j .half)) (phase-wrong (j .phase) j z ring) e .1
 
-pub job-passes : (ring fram : List ℕ) (a : Advances) → advance-stop ring fram a ≡ none → job-wrong (a .job) (a .sizes) ring fram ≡ false
+pub job-passes : (form : Form) (ring fram : List ℕ) (a : Advances) → advance-stop form ring fram a ≡ none → job-wrong form (a .job) (a .sizes) ring fram ≡ false
 unfolding advance-stop
-job-passes ring fram a e = passes _ e .1 .1 .1 .0
+job-passes form ring fram a e = passes _ e .1 .1 .1 .0
 
-done-stops : (u : Setup) (s : State) (h : Handed) → h .job .phase ≡ Done → (o : Option ℕ) → advance-stop (s .ring) (s .fram) (call u h) ≡ o
+done-stops : (u : Setup) (s : State) (h : Handed) → h .job .phase ≡ Done → (o : Option ℕ) → advance-stop (s .form) (s .ring) (s .fram) (call u h) ≡ o
     → step u s (advanced-by (call u h)) ≡ s
 unfolding step left-by entered refused is-stopped advance advance-by moved phase-wrong
 done-stops u s h e (some x) f = rw f
 done-stops u s h e none f = no-fact (subst (λ (q : Phase). phase-wrong q (h .job) (u .sizes) (s .ring) ≡ false) e
-    (phase-passes (h .job) (u .sizes) (s .ring) (s .fram) (job-passes (s .ring) (s .fram) (call u h) f)))
+    (phase-passes (s .form) (h .job) (u .sizes) (s .ring) (s .fram) (job-passes (s .form) (s .ring) (s .fram) (call u h) f)))
 
-pub done-refused : (u : Setup) (s : State) (h : Handed) → h .job .phase ≡ Done → (o : Option ℕ) → advance-stop (s .ring) (s .fram) (call u h) ≡ o
+pub done-refused : (u : Setup) (s : State) (h : Handed) → h .job .phase ≡ Done → (o : Option ℕ) → advance-stop (s .form) (s .ring) (s .fram) (call u h) ≡ o
     → T (refused s (advanced-by (call u h)))
 unfolding refused is-stopped advance advance-by phase-wrong
 done-refused u s h e (some x) f = rw f tt
 done-refused u s h e none f = no-fact (subst (λ (q : Phase). phase-wrong q (h .job) (u .sizes) (s .ring) ≡ false) e
-    (phase-passes (h .job) (u .sizes) (s .ring) (s .fram) (job-passes (s .ring) (s .fram) (call u h) f)))
+    (phase-passes (s .form) (h .job) (u .sizes) (s .ring) (s .fram) (job-passes (s .form) (s .ring) (s .fram) (call u h) f)))
 
 module _ (u : Setup) (s : State) (inv : Holds u s) where
   hold-call : (h : Handed) (p : Phase) → h .job .phase ≡ p → Doing u s h p → Holds u (step u s (advanced-by (call u h)))
@@ -137,7 +138,7 @@ module _ (u : Setup) (s : State) (inv : Holds u s) where
   hold-call h (Words w) e d = writing u s h inv w e d .holds
   hold-call h Record e d = recording inv d e .holds
   hold-call h (EraseAfter p) e d = erasing-after u s h inv p e d .holds
-  hold-call h Done e d = rw (done-stops u s h e (advance-stop (s .ring) (s .fram) (call u h)) refl) inv
+  hold-call h Done e d = rw (done-stops u s h e (advance-stop (s .form) (s .ring) (s .fram) (call u h)) refl) inv
 
   pub hold-advanced : (a : Advances) → Keeps u s (advanced-by a) → Holds u (step u s (advanced-by a))
   unfolding Keeps

@@ -9,7 +9,7 @@ use Rattle.ring.specs.Ring.{page-before}
 use Rattle.ring.proofs.StoreLaws.{erased-is}
 use Rattle.checkpoint.specs.Checkpoint.{Checkpoint}
 use Rattle.protocol.specs.Types.{Job, Session, Origin, Save, PowerUp, Phase, EraseFirst, Words, Record, EraseAfter, Done}
-use Rattle.protocol.specs.Calls.{Sizes, Advances, Event, first-saved, saved, powered-up, advanced-by, PowerLoss, lost-in-store}
+use Rattle.protocol.specs.Calls.{Sizes, Advances, Event, first-saved, saved, powered-up, advanced-by, PowerLoss, Updated, lost-in-store}
 use Rattle.protocol.specs.Operations.{no-job, going-on, ended, stored-word, recorded, erase-follows, after-record, store, advance-by, advance, begin, first-save, save, power-up, finished, no-session, session-of}
 use Rattle.protocol.specs.History.{State, broken-ring, broken-fram, is-stop, bytes-of}
 use Rattle.protocol.specs.Recovery.{start-answer, is-going, Exact}
@@ -34,7 +34,7 @@ recorded-ring true j p new fram = (refl, refl)
 recorded-ring false j p new fram = (refl, refl)
 
 -- the memories that a store leaves
-store-leaves : (p : Phase) (ring fram : List ℕ) (a : Advances)
+pub store-leaves : (p : Phase) (ring fram : List ℕ) (a : Advances)
     → (store p ring fram a .ring ≡ broken-ring p ring (a .sizes .slots) (a .job) (bytes-of p (a .job) (a .sizes .slots) (a .staging)))
     × (store p ring fram a .fram ≡ broken-fram p fram (a .job) (bytes-of p (a .job) (a .sizes .slots) (a .staging)))
 unfolding store going-on ended after-record recorded stored-word broken-ring broken-fram bytes-of
@@ -88,4 +88,5 @@ exact s (advanced-by a) = (
   ),
 )
 exact s PowerLoss = tt
+exact s Updated = tt
 exact s (lost-in-store left) = tt

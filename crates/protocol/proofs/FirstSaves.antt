@@ -1,25 +1,27 @@
 -- The invariant after a first save.
-use Prim.Native.Nat.{ℕ, _+_}
-use mathlib.Core.Path.{_≡_, refl, sym, subst, _∙_}
+use Prim.Native.Nat.{ℕ, _+_, _≤_}
+use mathlib.Core.Path.{_≡_, refl, sym, ap, subst, _∙_}
 use mathlib.Core.Bool.{Bool, true, false, _||_}
 use mathlib.Core.Logic.{inl, inr}
 use mathlib.Core.Option.{Option, none, some}
-use mathlib.Core.List.{List, List·Memᴰ}
+use mathlib.Core.List.{List, _∷_, List·Memᴰ}
 use native.Mathlib.Omega.{arith}
 use native.Mathlib.Nat.{zero-div, zero-mod}
 use lib.ListN.{length}
-use borrow.Author.Tests.{eqb-true, not-false}
-use Rattle.octets.specs.Limits.{nonce-length, tag-length}
-use Rattle.octets.specs.Octets.{blank}
+use borrow.Author.Tests.{eqb-true, ltb-false, not-false}
+use Rattle.octets.specs.Limits.{packet-limit, nonce-length, tag-length}
+use Rattle.octets.specs.Octets.{put, blank}
 use Rattle.stops.proofs.Laws.{neither, passes}
 use Rattle.ring.specs.Ring.{Blank}
 use Rattle.ring.proofs.RingLaws.{read-blank}
 use Rattle.ring.proofs.FoundLaws.{found}
+use Rattle.checkpoint.specs.Checkpoint.{Form, Older, Longer, Checkpoint, sealed}
+use Rattle.checkpoint.specs.Layout.{PacketInRange}
 use Rattle.checkpoint.specs.Fram.{half-length}
 use Rattle.protocol.specs.Types.{Save, Words}
 use Rattle.protocol.specs.Calls.{FirstSave, Setup, first-saved}
-use Rattle.protocol.specs.Operations.{key-wrong, nonce-wrong, tag-wrong, job-of, first-save-stop, first-checkpoint, first-save}
-use Rattle.protocol.specs.Journal.{entered, first-draft}
+use Rattle.protocol.specs.Operations.{key-wrong, nonce-wrong, tag-wrong, packet-wrong, written-number, job-of, first-save-stop, first-checkpoint, first-save}
+use Rattle.protocol.specs.Journal.{entered, number-in, first-draft, drafted}
 use Rattle.protocol.specs.History.{State, step, Keeps, left-by, refused}
 use Rattle.protocol.proofs.Invariant.{Good, half-of, page-in, slot-in, DurableAt, Untouched, Holds}
 use Rattle.protocol.proofs.Reading.{reads}
@@ -28,24 +30,36 @@ use Rattle.protocol.proofs.Starts.{started, start-holds, begun-stopped,
 abbrev pub first-call : Setup → FirstSave → FirstSave
 first-call u a = record { arguments = save-arguments u (a .arguments); starting-tag = a .starting-tag }
 
-record FirstPasses (u : Setup) (ring fram : List ℕ) (a : FirstSave) : Type 0 where
+record FirstPasses (u : Setup) (form : Form) (ring fram : List ℕ) (a : FirstSave) : Type 0 where
   nonce-long : length (a .arguments .nonce) ≡ nonce-length
   tag-long : length (a .starting-tag) ≡ tag-length
-  parts : Parts (a .arguments .open-part) (a .arguments .secret) (half-length fram) (length (a .arguments .staging))
+  parts : Parts form (a .arguments .open-part) (a .arguments .secret) (half-length fram) (length (a .arguments .staging))
+  packet-small : packet-wrong form (a .arguments .packet) ≡ false
   ring-blank : blank ring ≡ true
 
-first-passes : (u : Setup) (ring fram : List ℕ) (a : FirstSave) → first-save-stop ring fram (first-call u a) ≡ none → FirstPasses u ring fram a
+first-passes : (u : Setup) (form : Form) (ring fram : List ℕ) (a : FirstSave) → first-save-stop form ring fram (first-call u a) ≡ none → FirstPasses u form ring fram a
 unfolding first-save-stop
-first-passes u ring fram a e =
+first-passes u form ring fram a e =
     let p = passes _ e in
     let lengths = neither (key-wrong (length (u .key)) || nonce-wrong (length (a .arguments .nonce))) (tag-wrong (length (a .starting-tag))) (p .1 .1 .0) in
     record {
       nonce-long = eqb-true (length (a .arguments .nonce)) nonce-length
           (not-false _ (neither (key-wrong (length (u .key))) (nonce-wrong (length (a .arguments .nonce))) (lengths .0) .1));
       tag-long = eqb-true (length (a .starting-tag)) tag-length (not-false _ (lengths .1));
-      parts = parts-pass (a .arguments .open-part) (a .arguments .secret) fram (a .arguments .staging) (p .1 .1 .1 .0);
-      ring-blank = not-false _ (p .1 .1 .1 .1 .0);
+      parts = parts-pass form (a .arguments .open-part) (a .arguments .secret) fram (a .arguments .staging) (p .1 .1 .1 .0);
+      packet-small = p .1 .1 .1 .1 .0;
+      ring-blank = not-false _ (p .1 .1 .1 .1 .1 .0);
     }
+
+-- a packet number that passes 18 is one of the form's
+pub numbered : (form : Form) (packet : ℕ) → packet-wrong form packet ≡ false → PacketInRange form (written-number form packet)
+unfolding packet-wrong written-number
+numbered Older packet e = refl
+numbered Longer packet e = ltb-false packet-limit packet e
+
+pub packet-in-range : (form : Form) (packet : ℕ) → PacketInRange form packet → packet ≤ packet-limit
+packet-in-range Older packet n = omega arith
+packet-in-range Longer packet n = n
 
 -- a ring that is blank has nothing recorded
 blank-untouched : (u : Setup) (s : State) → Holds u s → blank (s .ring) ≡ true
@@ -62,21 +76,26 @@ blank-untouched u s inv b = go (inv .durable)
     go (inr (c, r)) = absurd (different (s .journal .owed) (sym (read-blank (u .sizes .pages) (u .sizes .slots) (s .ring) (inv .ring-right) b)
         ∙ reads (inv .fram-right) r))
 
+first-drafted : (form : Form) (a : FirstSave) → first-draft form a ≡ first-checkpoint form a
+unfolding first-draft first-checkpoint number-in written-number
+first-drafted Older a = refl
+first-drafted Longer a = refl
+
 module _ (u : Setup) (s : State) (inv : Holds u s) (a : FirstSave) (new : List·Memᴰ (a .arguments .nonce) (s .nonces) → ⊥) where
-  pub first-begun : first-save-stop (s .ring) (s .fram) (first-call u a) ≡ none
-      → Holds u (started u s (first-checkpoint (first-call u a)) Save 0 (job-of (u .key) (first-checkpoint (first-call u a)) (Words 0) Save 0 0 0) (a .arguments .staging))
+  pub first-begun : first-save-stop (s .form) (s .ring) (s .fram) (first-call u a) ≡ none
+      → Holds u (started u s (first-checkpoint (s .form) (first-call u a)) Save 0 (job-of (u .key) (first-checkpoint (s .form) (first-call u a)) (Words 0) Save 0 0 0) (a .arguments .staging))
   unfolding first-checkpoint
   first-begun e =
-      start-holds u s inv (first-checkpoint (first-call u a)) Save (Words 0) 0 0 0 (a .arguments .staging) good new (p .parts .staging-long)
+      start-holds u s inv (first-checkpoint (s .form) (first-call u a)) Save (Words 0) 0 0 0 (a .arguments .staging) good refl new (p .parts .staging-long)
       half-is page-is slot-is 0 refl (inl (x .none-owed, refl))
     where
-      p : FirstPasses u (s .ring) (s .fram) a
-      p = first-passes u (s .ring) (s .fram) a e
+      p : FirstPasses u (s .form) (s .ring) (s .fram) a
+      p = first-passes u (s .form) (s .ring) (s .fram) a e
 
       x : Untouched (s .ring) (s .journal .entry) (s .journal .count) (s .journal .owed) (s .journal .power-ups)
       x = blank-untouched u s inv (p .ring-blank)
 
-      good : Good (first-checkpoint (first-call u a)) (half-length (s .fram))
+      good : Good (first-checkpoint (s .form) (first-call u a)) (half-length (s .fram))
       good = record {
         range = record {
           open-whole = p .parts .open-passes .0;
@@ -84,6 +103,7 @@ module _ (u : Setup) (s : State) (inv : Holds u s) (a : FirstSave) (new : List·
           secret-whole = p .parts .secret-passes .0;
           secret-small = p .parts .secret-passes .1;
           restarts-small = omega arith;
+          packet-small = numbered (s .form) (a .arguments .packet) (p .packet-small);
           previous-long = p .tag-long;
         };
         nonce-long = p .nonce-long;
@@ -100,19 +120,32 @@ module _ (u : Setup) (s : State) (inv : Holds u s) (a : FirstSave) (new : List·
       slot-is = rw (x .no-record, zero-mod (u .sizes .slots))
 
   -- the state after a first save that does not stop
-  pub first-step : first-save-stop (s .ring) (s .fram) (first-call u a) ≡ none
+  pub first-step : first-save-stop (s .form) (s .ring) (s .fram) (first-call u a) ≡ none
       → step u s (first-saved (first-call u a))
-      ≡ started u s (first-checkpoint (first-call u a)) Save 0 (job-of (u .key) (first-checkpoint (first-call u a)) (Words 0) Save 0 0 0) (a .arguments .staging)
-  unfolding step left-by entered refused first-save first-checkpoint first-draft
-  first-step e = begun-none s (first-save-stop (s .ring) (s .fram) (first-call u a)) _ _ _ _ _ _ _ _ e
+      ≡ started u s (first-checkpoint (s .form) (first-call u a)) Save 0 (job-of (u .key) (first-checkpoint (s .form) (first-call u a)) (Words 0) Save 0 0 0) (a .arguments .staging)
+  unfolding step left-by entered refused first-save first-checkpoint
+  first-step e =
+      begun-none s (first-save-stop (s .form) (s .ring) (s .fram) (first-call u a)) _ _ _ _ _ _ _ _ e
+      ∙ ap (λ (c : Checkpoint). record {
+        ring = s .ring;
+        fram = s .fram;
+        handed = some (record {
+          job = job-of (u .key) (first-checkpoint (s .form) (first-call u a)) (Words 0) Save 0 0 0;
+          staging = put (a .arguments .staging) 0 (sealed (u .key) (first-checkpoint (s .form) (first-call u a)));
+        });
+        sessions = s .sessions;
+        nonces = a .arguments .nonce ∷ s .nonces;
+        journal = drafted (u .key) (u .sizes .slots) Save c 0 (s .journal);
+        form = s .form;
+      }) (first-drafted (s .form) (first-call u a))
 
-  first-go : (o : Option ℕ) → first-save-stop (s .ring) (s .fram) (first-call u a) ≡ o → Holds u (step u s (first-saved (first-call u a)))
+  first-go : (o : Option ℕ) → first-save-stop (s .form) (s .ring) (s .fram) (first-call u a) ≡ o → Holds u (step u s (first-saved (first-call u a)))
   unfolding step left-by entered refused first-save
-  first-go (some x) e = rw (begun-stopped s (first-save-stop (s .ring) (s .fram) (first-call u a)) _ _ _ _ _ _ _ _ x e) inv
+  first-go (some x) e = rw (begun-stopped s (first-save-stop (s .form) (s .ring) (s .fram) (first-call u a)) _ _ _ _ _ _ _ _ x e) inv
   first-go none e = subst (λ (t : State). Holds u t) (sym (first-step e)) (first-begun e)
 
 pub hold-first : (u : Setup) (s : State) (a : FirstSave) → Holds u s → Keeps u s (first-saved a) → Holds u (step u s (first-saved a))
 unfolding Keeps
 hold-first u s a inv (p, q, f) =
     let path : first-call u a ≡ a = λ i. record { arguments = same-arguments u (a .arguments) p q i; starting-tag = a .starting-tag } in
-    subst (λ (b : FirstSave). Holds u (step u s (first-saved b))) path (first-go u s inv a f (first-save-stop (s .ring) (s .fram) (first-call u a)) refl)
+    subst (λ (b : FirstSave). Holds u (step u s (first-saved b))) path (first-go u s inv a f (first-save-stop (s .form) (s .ring) (s .fram) (first-call u a)) refl)

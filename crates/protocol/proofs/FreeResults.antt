@@ -2,7 +2,8 @@
 -- and no save begins with the session beside 'going on' or a refusal. Assumes nothing.
 use Prim.Native.Nat.{ℕ, _≤_}
 use mathlib.Core.Path.{_≡_, refl, sym, ap, _∙_}
-use mathlib.Core.Bool.{Bool, true, false}
+use mathlib.Core.Bool.{Bool, true, false, _||_}
+use mathlib.Core.Logic.{_⊎_, inl, inr}
 use mathlib.Core.Option.{some}
 use mathlib.Core.List.{List, [], _∷_}
 use lib.Dec.{lit≤}
@@ -12,6 +13,7 @@ use Rattle.stops.specs.Stops.{first-of}
 use Rattle.ring.specs.Ring.{ring-wrong, read-ring, is-record, is-blank, is-unreadable}
 use Rattle.ring.proofs.NewestLaws.{newest-is-record}
 use Rattle.ring.proofs.StoreLaws.{newest-latest}
+use Rattle.checkpoint.specs.Checkpoint.{Form, Older, Longer}
 use Rattle.protocol.specs.Types.{Job, Session, Refused, Stopped}
 use Rattle.protocol.specs.Calls.{Sizes, Saves, Advances}
 use Rattle.protocol.specs.Operations.{stale, begin, no-job, save-stop, save, no-session, job-wrong, advance-stop, advance-by, advance}
@@ -19,9 +21,10 @@ use Rattle.protocol.proofs.Facts.{no-fact}
 
 -- ---- no job
 
-pub no-job-wrong : (z : Sizes) (ring fram : List ℕ) → job-wrong no-job z ring fram ≡ true
+pub no-job-wrong : (form : Form) (z : Sizes) (ring fram : List ℕ) → job-wrong form no-job z ring fram ≡ true
 unfolding job-wrong no-job
-no-job-wrong z ring fram = refl
+no-job-wrong Older z ring fram = refl
+no-job-wrong Longer z ring fram = refl
 
 four-stop : (a b c d : Bool) → d ≡ true → (x : ℕ) × (first-of ((1, a) ∷ (2, b) ∷ (4, c) ∷ (14, d) ∷ []) ≡ some x) × (x ≤ 14)
 unfolding first-of
@@ -30,17 +33,17 @@ four-stop false true c d e = (2, refl, lit≤ tt)
 four-stop false false true d e = (4, refl, lit≤ tt)
 four-stop false false false d e = (14, rw e, lit≤ tt)
 
-advance-stops : (ring fram : List ℕ) (a : Advances) (x : ℕ) → advance-stop ring fram a ≡ some x → advance ring fram a .progress ≡ Refused x
+advance-stops : (form : Form) (ring fram : List ℕ) (a : Advances) (x : ℕ) → advance-stop form ring fram a ≡ some x → advance form ring fram a .progress ≡ Refused x
 unfolding advance advance-by
-advance-stops ring fram a x e = rw e
+advance-stops form ring fram a x e = rw e
 
 -- an advance of it always stops, by 14 at the latest
-pub no-job-stops : (ring fram : List ℕ) (a : Advances) → a .job ≡ no-job → (x : ℕ) × (advance ring fram a .progress ≡ Refused x) × (x ≤ 14)
+pub no-job-stops : (form : Form) (ring fram : List ℕ) (a : Advances) → a .job ≡ no-job → (x : ℕ) × (advance form ring fram a .progress ≡ Refused x) × (x ≤ 14)
 unfolding advance-stop
-no-job-stops ring fram a e =
-    let w : job-wrong (a .job) (a .sizes) ring fram ≡ true = ap (λ (j : Job). job-wrong j (a .sizes) ring fram) e ∙ no-job-wrong (a .sizes) ring fram in
+no-job-stops form ring fram a e =
+    let w : job-wrong form (a .job) (a .sizes) ring fram ≡ true = ap (λ (j : Job). job-wrong form j (a .sizes) ring fram) e ∙ no-job-wrong form (a .sizes) ring fram in
     let s = four-stop _ _ _ _ w in
-    (s .0, advance-stops ring fram a (s .0) (s .1), s .2)
+    (s .0, advance-stops form ring fram a (s .0) (s .1), s .2)
 
 -- ---- no session
 
@@ -59,26 +62,31 @@ module _ (ring : List ℕ) (z : Sizes) where
       go true e = refl
       go false e = no-fact (sym (newest-is-record (z .pages) (z .slots) ring r b u) ∙ sym (ap is-record (newest-latest _ _ _ _ _ _ e)) ∙ no-record)
 
-seven-stop : (a b c d e f g : Bool) (more : List (ℕ × Bool)) → (a ≡ false → e ≡ false → f ≡ false → g ≡ true)
-    → (x : ℕ) × (first-of ((1, a) ∷ (2, b) ∷ (3, c) ∷ (4, d) ∷ (6, e) ∷ (7, f) ∷ (8, g) ∷ more) ≡ some x) × (x ≤ 8)
-unfolding first-of
-seven-stop true b c d e f g more w = (1, refl, lit≤ tt)
-seven-stop false true c d e f g more w = (2, refl, lit≤ tt)
-seven-stop false false true d e f g more w = (3, refl, lit≤ tt)
-seven-stop false false false true e f g more w = (4, refl, lit≤ tt)
-seven-stop false false false false true f g more w = (6, refl, lit≤ tt)
-seven-stop false false false false false true g more w = (7, refl, lit≤ tt)
-seven-stop false false false false false false g more w = (8, rw (w refl refl refl), lit≤ tt)
+-- stop x is one of those up to 8 in the order of a save's, among which 18 stands behind 4
+abbrev pub By8 : ℕ → Type 0
+By8 x = (x ≤ 8) ⊎ (x ≡ 18)
 
-save-stops : (ring fram : List ℕ) (a : Saves) (x : ℕ) → save-stop ring fram a ≡ some x → save ring fram a .answer ≡ Stopped x
+eight-stop : (a b c d p e f g g′ : Bool) (more : List (ℕ × Bool)) → (a ≡ false → e ≡ false → f ≡ false → g ≡ true)
+    → (x : ℕ) × (first-of ((1, a) ∷ (2, b) ∷ (3, c) ∷ (4, d) ∷ (18, p) ∷ (6, e) ∷ (7, f) ∷ (8, g || g′) ∷ more) ≡ some x) × By8 x
+unfolding first-of
+eight-stop true b c d p e f g g′ more w = (1, refl, inl (lit≤ tt))
+eight-stop false true c d p e f g g′ more w = (2, refl, inl (lit≤ tt))
+eight-stop false false true d p e f g g′ more w = (3, refl, inl (lit≤ tt))
+eight-stop false false false true p e f g g′ more w = (4, refl, inl (lit≤ tt))
+eight-stop false false false false true e f g g′ more w = (18, refl, inr refl)
+eight-stop false false false false false true f g g′ more w = (6, refl, inl (lit≤ tt))
+eight-stop false false false false false false true g g′ more w = (7, refl, inl (lit≤ tt))
+eight-stop false false false false false false false g g′ more w = (8, rw (w refl refl refl), inl (lit≤ tt))
+
+save-stops : (form : Form) (ring fram : List ℕ) (a : Saves) (x : ℕ) → save-stop form ring fram a ≡ some x → save form ring fram a .answer ≡ Stopped x
 unfolding save begin
-save-stops ring fram a x e = rw e
+save-stops form ring fram a x e = rw e
 
 -- a save with it always stops, by 8 at the latest
-pub no-session-stops : (ring fram : List ℕ) (a : Saves) → a .session ≡ no-session → (x : ℕ) × (save ring fram a .answer ≡ Stopped x) × (x ≤ 8)
+pub no-session-stops : (form : Form) (ring fram : List ℕ) (a : Saves) → a .session ≡ no-session → (x : ℕ) × (save form ring fram a .answer ≡ Stopped x) × By8 x
 unfolding save-stop
-no-session-stops ring fram a e =
+no-session-stops form ring fram a e =
     let z : Sizes = a .arguments .sizes in
-    let s = seven-stop _ _ _ _ _ _ _ _ (λ r b u.
+    let s = eight-stop _ _ _ _ _ _ _ _ _ _ (λ r b u.
     ap (λ (y : Session). stale ring (z .slots) (read-ring ring (z .pages) (z .slots)) y) e ∙ no-session-stale ring z r b u) in
-    (s .0, save-stops ring fram a (s .0) (s .1), s .2)
+    (s .0, save-stops form ring fram a (s .0) (s .1), s .2)

@@ -14,7 +14,7 @@ use Rattle.checkpoint.specs.Checkpoint.{Checkpoint, sealed}
 use Rattle.protocol.specs.Types.{Origin, Phase, EraseFirst, Words, Record, EraseAfter, Done}
 use Rattle.protocol.specs.Calls.{Setup, Event, lost-in-store}
 use Rattle.protocol.specs.Journal.{Journal, Draft, Store, erase, word, record-slot, erase-if, stores-of, entered}
-use Rattle.protocol.specs.History.{State, Handed, broken, left-by, step, run, Left, Keeps, Allowed}
+use Rattle.protocol.specs.History.{broken-fram, State, Handed, broken, left-by, step, run, Left, Keeps, Allowed, refused}
 use Rattle.protocol.specs.Recovery.{advances-of}
 use Rattle.protocol.specs.Histories.{stores-left, but-the-last}
 use Rattle.protocol.proofs.Invariant.{draft-of, ErasingAfter, Doing, Holds}
@@ -59,6 +59,16 @@ unfolding broken
 broken-nonces u s none left j = refl
 broken-nonces u s (some h) left j = refl
 
+broken-form : (u : Setup) (s : State) (o : Option Handed) (left : List ℕ) (j : Journal) → broken u s o left j .form ≡ s .form
+unfolding broken
+broken-form u s none left j = refl
+broken-form u s (some h) left j = refl
+
+-- an erase leaves the FRAM as it is
+erase-fram : (u : Setup) (s : State) (h : Handed) (left : List ℕ) (j : Journal) (p : ℕ) → h .job .phase ≡ EraseAfter p → broken u s (some h) left j .fram ≡ s .fram
+unfolding broken broken-fram
+erase-fram u s h left j p e = rw e
+
 -- c is recorded and the page before its record awaits erasing
 pub record Owing (u : Setup) (s t : State) (c : Checkpoint) (nonce : List ℕ) : Type 0 where
   pub holds : Holds u t
@@ -66,6 +76,8 @@ pub record Owing (u : Setup) (s t : State) (c : Checkpoint) (nonce : List ℕ) :
   pub owed : t .journal .owed ≡ true
   pub count : t .journal .count ≡ s .journal .count + 1
   pub nonces : t .nonces ≡ nonce ∷ s .nonces
+  pub form : t .form ≡ s .form
+  pub fram-long : length (t .fram) ≡ length (s .fram)
 
 module _ (u : Setup) (t : State) (c : Checkpoint) (origin : Origin) (h : Handed) (left : List ℕ)
     (inv : Holds u t) (q : t .handed ≡ some h) (d : t .journal .draft ≡ some (draft-of c origin (erase ∷ []))) (l : length left ≡ slot-length * u .sizes .slots) where
@@ -89,14 +101,26 @@ module _ (u : Setup) (t : State) (c : Checkpoint) (origin : Origin) (h : Handed)
   unfolding step left-by
   loss-nonces = broken-nonces u t (t .handed) left _
 
+  loss-form : step u t (lost-in-store left) .form ≡ t .form
+  unfolding step left-by
+  loss-form = broken-form u t (t .handed) left _
+
+  loss-fram : step u t (lost-in-store left) .fram ≡ t .fram
+  unfolding step left-by
+  loss-fram = ap (λ (x : Option Handed). broken u t x left (entered u (t .form) (t .journal) (lost-in-store left) (refused t (lost-in-store left))) .fram) q
+      ∙ erase-fram u t h left _ (at-erase .0) (at-erase .1)
+
   loss-owing : (s : State) (nonce : List ℕ) → blank left ≡ false → t .journal .count ≡ s .journal .count + 1 → t .nonces ≡ nonce ∷ s .nonces
+      → t .form ≡ s .form → length (t .fram) ≡ length (s .fram)
       → Owing u s (step u t (lost-in-store left)) c nonce
-  loss-owing s nonce b n m = record {
+  loss-owing s nonce b n m o r = record {
     holds = hold-lost-in-store u t left inv loss-keeps;
     entry = ap (λ (j : Journal). j .entry) loss-journal ∙ entry-here;
     owed = ap (λ (j : Journal). j .owed) loss-journal ∙ ap not b;
     count = ap (λ (j : Journal). j .count) loss-journal ∙ n;
     nonces = loss-nonces ∙ m;
+    form = loss-form ∙ o;
+    fram-long = ap (λ (l : List ℕ). length l) loss-fram ∙ r;
   }
 
 -- ---- the start and its stores up to there
@@ -108,6 +132,7 @@ module _ (u : Setup) (s : State) (e : Event) (c : Checkpoint) (origin : Origin) 
     (inv : Holds u (step u s e)) (q : step u s e .handed ≡ some h)
     (d : step u s e .journal .draft ≡ some (draft-of c origin (stores-of (u .key) (u .sizes .slots) (s .journal) c)))
     (n : step u s e .journal .count ≡ s .journal .count) (m : step u s e .nonces ≡ nonce ∷ s .nonces)
+    (o : step u s e .form ≡ s .form) (r : step u s e .fram ≡ s .fram)
     (opens : ltb 0 (s .journal .count) && eqb (s .journal .count % u .sizes .slots) 0 ≡ true)
     (l : length left ≡ slot-length * u .sizes .slots) (b : blank left ≡ false) where
   abbrev first : List Store
@@ -137,7 +162,8 @@ module _ (u : Setup) (s : State) (e : Event) (c : Checkpoint) (origin : Origin) 
   owing-here : Owing u s (run u (run u s before) (lost-in-store left ∷ [])) c nonce
   unfolding run
   owing-here = loss-owing u there c origin (made-here .handed) left (made-here .holds) (made-here .handed-is) (made-here .draft-is) l
-      s nonce b (made-here .count ∙ (λ i. n i + first-record (u .key) (s .journal) c i)) (made-here .nonces ∙ m)
+      s nonce b (made-here .count ∙ (λ i. n i + first-record (u .key) (s .journal) c i)) (made-here .nonces ∙ m) (made-here .form ∙ o)
+      (made-here .fram-long ∙ ap (λ (l : List ℕ). length l) r)
 
   events-are : but-the-last u s e left ≡ before ++ lost-in-store left ∷ []
   unfolding but-the-last stores-left

@@ -15,6 +15,7 @@ use Rattle.ring.proofs.RingLaws.{Ringed, page-of, slot-of, last}
 use Rattle.checkpoint.specs.Checkpoint.{Checkpoint, own-tag, sealed, sealed-length}
 use Rattle.checkpoint.specs.Layout.{InRange}
 use Rattle.checkpoint.proofs.SealedLaws.{length-sealed}
+use Rattle.checkpoint.proofs.HalfLaws.{Reads}
 use Rattle.checkpoint.specs.Fram.{fram-wrong, half-length}
 use Rattle.protocol.specs.Types.{Origin, Session, Phase, EraseFirst, Words, Record, EraseAfter, Done, Progress, GoingOn}
 use Rattle.protocol.specs.Calls.{Setup}
@@ -40,9 +41,9 @@ owed-page u s = page-before (u .sizes .pages) (page-in u (s .journal .count))
 pub record Good (c : Checkpoint) (size : ℕ) : Type 0 where
   pub range : InRange c
   pub nonce-long : length (c .nonce) ≡ nonce-length
-  pub fits : sealed-length (length (c .open-part)) (length (c .secret)) ≤ size
+  pub fits : sealed-length (c .form) (length (c .open-part)) (length (c .secret)) ≤ size
 
-pub length-good : (key : List ℕ) {c : Checkpoint} {size : ℕ} → Good c size → length (sealed key c) ≡ sealed-length (length (c .open-part)) (length (c .secret))
+pub length-good : (key : List ℕ) {c : Checkpoint} {size : ℕ} → Good c size → length (sealed key c) ≡ sealed-length (c .form) (length (c .open-part)) (length (c .secret))
 length-good key {c} g = length-sealed key c (g .range .previous-long)
 
 pub sealed-fits : (key : List ℕ) {c : Checkpoint} {size : ℕ} → Good c size → length (sealed key c) ≤ size
@@ -84,6 +85,7 @@ draft-of c origin stores = record { checkpoint = c; origin = origin; power-ups =
 pub record Working (u : Setup) (s : State) (h : Handed) (n : ℕ) (stores : List Store) : Type 0 where
   pub c : Checkpoint
   pub origin : Origin
+  pub form-is : c .form ≡ s .form
   pub draft-is : s .journal .draft ≡ some (draft-of c origin stores)
   pub good : Good c (half-length (s .fram))
   pub nonce-known : List·Memᴰ (c .nonce) (s .nonces)
@@ -94,6 +96,8 @@ pub record Working (u : Setup) (s : State) (h : Handed) (n : ℕ) (stores : List
   pub slot-is : h .job .slot ≡ slot-in u n
   pub nonce-is : h .job .nonce ≡ c .nonce
   pub tag-is : h .job .tag ≡ own-tag (u .key) c
+  pub restarts-is : h .job .restarts ≡ c .restarts
+  pub packet-is : h .job .packet ≡ c .packet
   pub staging-long : half-length (s .fram) ≤ length (h .staging)
   pub staged : Written (h .staging) 0 (length (sealed (u .key) c)) (sealed (u .key) c)
 
@@ -141,13 +145,19 @@ Doing u s h Record = Recording u s h
 Doing u s h (EraseAfter p) = ErasingAfter u s h p
 Doing u s h Done = (d : Draft) × (s .journal .draft ≡ some d) × (d .stores ≡ [])
 
+-- a session has the tag, the restarts and the packet number of checkpoint c
+abbrev pub Matches : Setup → Session → Checkpoint → Type 0
+Matches u z c = (z .tag ≡ own-tag (u .key) c) × (z .restarts ≡ c .restarts) × (z .packet ≡ c .packet)
+
 pub record Holds (u : Setup) (s : State) : Type 0 where
   pub ring-right : ring-wrong (u .sizes .pages) (u .sizes .slots) (s .ring) ≡ false
   pub fram-right : fram-wrong (s .fram) ≡ false
   pub durable : DurableAt u s (s .ring) (s .fram) (s .journal .owed)
   pub sessions-known : (z : Session) → List·Memᴰ z (s .sessions) → List·Memᴰ (take nonce-length (z .latest)) (s .nonces)
   pub sessions-match : (z : Session) → List·Memᴰ z (s .sessions) → (c : Checkpoint) → s .journal .entry ≡ some c
-      → take nonce-length (z .latest) ≡ c .nonce → z .tag ≡ own-tag (u .key) c
+      → take nonce-length (z .latest) ≡ c .nonce → Matches u z c
+  -- the firmware reads the entry's head
+  pub reads-entry : (c : Checkpoint) → s .journal .entry ≡ some c → Reads (s .form) (c .form)
   pub doing : (h : Handed) → s .handed ≡ some h → Doing u s h (h .job .phase)
 
 -- ---- after one advance
@@ -158,7 +168,7 @@ answer-of origin (x ∷ rest) = GoingOn
 
 -- the session of the n-th record, which is of checkpoint c
 abbrev pub session-in : Setup → ℕ → Checkpoint → Session
-session-in u n c = record { page = page-in u n; slot = slot-in u n; latest = record-of (c .nonce) (half-of n); tag = own-tag (u .key) c }
+session-in u n c = record { page = page-in u n; slot = slot-in u n; latest = record-of (c .nonce) (half-of n); tag = own-tag (u .key) c; restarts = c .restarts; packet = c .packet }
 
 -- the draft of checkpoint c has no store to come
 pub record Ended (u : Setup) (t : State) (c : Checkpoint) : Type 0 where

@@ -24,3 +24,4 @@ pub mod Blind
 pub mod Runs
 pub mod Interrupted
 pub mod Histories
+pub mod OlderLaws

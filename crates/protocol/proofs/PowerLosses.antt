@@ -4,7 +4,7 @@ use mathlib.Core.Path.{_≡_, refl, sym, ap, subst, subst₂, _∙_}
 use mathlib.Core.Bool.{Bool, true, false, not, cond}
 use mathlib.Core.Logic.{_⊎_, inl, inr}
 use mathlib.Core.Option.{Option, none, some}
-use mathlib.Core.List.{List, _∷_, _++_, List·Memᴰ}
+use mathlib.Core.List.{List, _∷_, _++_, List·Memᴰ, List·Memᴰ·not-nil}
 use native.Mathlib.Omega.{arith}
 use native.Mathlib.Nat.{mod-lt}
 use lib.ListN.{length, take, replicate}
@@ -15,39 +15,55 @@ use Rattle.ring.proofs.StoreLaws.{put-blank}
 use Rattle.ring.specs.Ring.{slot-at, ring-wrong, record-of, page-put, record-put}
 use Rattle.ring.proofs.SizeLaws.{Sized, sized, slot-ends}
 use Rattle.ring.proofs.RecordLaws.{length-record, is-record-of, record-used}
-use Rattle.checkpoint.specs.Checkpoint.{Checkpoint, own-tag}
+use Rattle.checkpoint.specs.Checkpoint.{Checkpoint}
+use Rattle.checkpoint.proofs.HalfLaws.{Reads}
 use Rattle.checkpoint.specs.Fram.{fram-wrong, half-length}
 use Rattle.checkpoint.proofs.FramLaws.{fram-kept, half-within}
 use Rattle.protocol.specs.Types.{Origin, Session, Phase, EraseFirst, Words, Record, EraseAfter, Done}
-use Rattle.protocol.specs.Calls.{Setup, PowerLoss, lost-in-store}
+use Rattle.protocol.specs.Calls.{Setup, PowerLoss, Updated, lost-in-store}
 use Rattle.protocol.specs.Operations.{job-record, recorded}
 use Rattle.protocol.specs.Journal.{entered, lost-into, Journal, Draft, Store, erase, word, record-slot, erase-if, to-come, made, dropped, whole}
 use Rattle.protocol.specs.History.{State, Handed, broken-ring, broken-fram, broken, step, Left, Keeps, left-by}
-use Rattle.protocol.proofs.Invariant.{draft-of, sealed-fits, half-of, owed-page, DurableAt, Recorded, Durable, Working, last-erase, Writing, Recording, Doing, Holds}
+use Rattle.protocol.proofs.Invariant.{draft-of, sealed-fits, half-of, owed-page, DurableAt, Recorded, Durable, Working, last-erase, Writing, Recording, Doing, Matches, Holds}
 use Rattle.protocol.proofs.Advances.{erase-durable, fram-durable}
-use Rattle.protocol.proofs.Records.{recorded-durable, recorded-is, none-match, record-at, full, next-slot-blank, owing}
+use Rattle.protocol.proofs.Records.{recorded-durable, recorded-is, none-match, now-reads, record-at, full, next-slot-blank, owing}
 
 module _ (u : Setup) (s : State) (inv : Holds u s) where
   loss-holds : (ring fram : List ℕ) (j : Journal) → ring-wrong (u .sizes .pages) (u .sizes .slots) ring ≡ false → fram-wrong fram ≡ false
       → Durable u ring fram (s .nonces) (j .entry) (j .count) (j .owed) (j .power-ups)
-      → ((z : Session) → List·Memᴰ z (s .sessions) → (c : Checkpoint) → j .entry ≡ some c → take nonce-length (z .latest) ≡ c .nonce → z .tag ≡ own-tag (u .key) c)
-      → Holds u (record { ring = ring; fram = fram; handed = none; sessions = s .sessions; nonces = s .nonces; journal = j })
-  loss-holds ring fram j r f d m = record {
+      → ((z : Session) → List·Memᴰ z (s .sessions) → (c : Checkpoint) → j .entry ≡ some c → take nonce-length (z .latest) ≡ c .nonce → Matches u z c)
+      → ((c : Checkpoint) → j .entry ≡ some c → Reads (s .form) (c .form))
+      → Holds u (record { ring = ring; fram = fram; handed = none; sessions = s .sessions; nonces = s .nonces; journal = j; form = s .form })
+  loss-holds ring fram j r f d m k = record {
     ring-right = r;
     fram-right = f;
     durable = d;
     sessions-known = inv .sessions-known;
     sessions-match = m;
+    reads-entry = k;
     doing = λ h e. absurd (let z : _≡_ {A = ℕ} 0 1 = cc in omega arith);
   }
 
-  hold-dropped : Holds u (record { ring = s .ring; fram = s .fram; handed = none; sessions = s .sessions; nonces = s .nonces; journal = dropped (s .journal) })
+  hold-dropped : Holds u (record { ring = s .ring; fram = s .fram; handed = none; sessions = s .sessions; nonces = s .nonces; journal = dropped (s .journal); form = s .form })
   unfolding dropped
-  hold-dropped = loss-holds (s .ring) (s .fram) (dropped (s .journal)) (inv .ring-right) (inv .fram-right) (inv .durable) (inv .sessions-match)
+  hold-dropped = loss-holds (s .ring) (s .fram) (dropped (s .journal)) (inv .ring-right) (inv .fram-right) (inv .durable) (inv .sessions-match) (inv .reads-entry)
 
   pub hold-power-loss : Holds u (step u s PowerLoss)
   unfolding step left-by entered
   hold-power-loss = hold-dropped
+
+  -- firmware of the longer form reads every head
+  pub hold-updated : Holds u (step u s Updated)
+  unfolding step left-by entered dropped
+  hold-updated = record {
+    ring-right = inv .ring-right;
+    fram-right = inv .fram-right;
+    durable = inv .durable;
+    sessions-known = λ z m. absurd (List·Memᴰ·not-nil m);
+    sessions-match = λ z m. absurd (List·Memᴰ·not-nil m);
+    reads-entry = λ c e. tt;
+    doing = λ h e. absurd (let z : _≡_ {A = ℕ} 0 1 = cc in omega arith);
+  }
 
 to-come-erase : (b : Bool) → to-come (erase-if b) ≡ b
 unfolding to-come erase-if
@@ -99,6 +115,7 @@ module _ (u : Setup) (s : State) (inv : Holds u s) (h : Handed) (left : List ℕ
     sessions = s .sessions;
     nonces = s .nonces;
     journal = j;
+    form = s .form;
   }
 
   loss-in-erase : (p : ℕ) (c : Checkpoint) (origin : Origin) (rest : List Store) → s .journal .draft ≡ some (draft-of c origin (erase ∷ rest))
@@ -110,6 +127,7 @@ module _ (u : Setup) (s : State) (inv : Holds u s) (h : Handed) (left : List ℕ
         sessions = s .sessions;
         nonces = s .nonces;
         journal = lost-into (s .journal) (s .journal .draft) left;
+        form = s .form;
       })
   loss-in-erase p c origin rest d o e l =
       subst (λ (q : ℕ). Holds u (record {
@@ -119,6 +137,7 @@ module _ (u : Setup) (s : State) (inv : Holds u s) (h : Handed) (left : List ℕ
         sessions = s .sessions;
         nonces = s .nonces;
         journal = lost-into (s .journal) (s .journal .draft) left;
+        form = s .form;
       })) (sym e)
       (subst (λ (j : Journal). Holds u (record {
         ring = page-put (s .ring) (u .sizes .slots) (owed-page u s) left;
@@ -127,10 +146,11 @@ module _ (u : Setup) (s : State) (inv : Holds u s) (h : Handed) (left : List ℕ
         sessions = s .sessions;
         nonces = s .nonces;
         journal = j;
+        form = s .form;
       })) (sym (lost-erase (s .journal) c origin rest left d o))
       (loss-holds u s inv (page-put (s .ring) (u .sizes .slots) (owed-page u s) left) (s .fram)
       (record { entry = s .journal .entry; count = s .journal .count; owed = not (blank left); power-ups = s .journal .power-ups; draft = none })
-      (x .0) (inv .fram-right) (x .1) (inv .sessions-match)))
+      (x .0) (inv .fram-right) (x .1) (inv .sessions-match) (inv .reads-entry)))
     where
       x : (ring-wrong (u .sizes .pages) (u .sizes .slots) (page-put (s .ring) (u .sizes .slots) (owed-page u s) left) ≡ false)
           × Durable u (page-put (s .ring) (u .sizes .slots) (owed-page u s) left) (s .fram) (s .nonces)
@@ -146,13 +166,14 @@ module _ (u : Setup) (s : State) (inv : Holds u s) (h : Handed) (left : List ℕ
         sessions = s .sessions;
         nonces = s .nonces;
         journal = lost-into (s .journal) (s .journal .draft) left;
+        form = s .form;
       })
   unfolding dropped
   loss-in-word w d l =
-      subst (λ (j : Journal). Holds u (record { ring = s .ring; fram = fram; handed = none; sessions = s .sessions; nonces = s .nonces; journal = j }))
+      subst (λ (j : Journal). Holds u (record { ring = s .ring; fram = fram; handed = none; sessions = s .sessions; nonces = s .nonces; journal = j; form = s .form }))
       (sym (lost-word (s .journal) (k .c) (k .origin) (replicate (d .left) word ++ record-slot ∷ last-erase u s) left (k .draft-is)))
       (loss-holds u s inv (s .ring) fram (dropped (s .journal)) (inv .ring-right)
-      (fram-kept (s .fram) fram (length-put (s .fram) (h .job .half * half-length (s .fram) + 4 * w) left within) (inv .fram-right)) durable (inv .sessions-match))
+      (fram-kept (s .fram) fram (length-put (s .fram) (h .job .half * half-length (s .fram) + 4 * w) left within) (inv .fram-right)) durable (inv .sessions-match) (inv .reads-entry))
     where
       k : Working u s h (s .journal .count + 1) (word ∷ (replicate (d .left) word ++ record-slot ∷ last-erase u s))
       k = d .before .working
@@ -180,13 +201,14 @@ module _ (u : Setup) (s : State) (inv : Holds u s) (h : Handed) (left : List ℕ
         sessions = s .sessions;
         nonces = s .nonces;
         journal = lost-into (s .journal) (s .journal .draft) left;
+        form = s .form;
       })
   unfolding recorded job-record
   loss-in-record d (inl e) =
-      subst₂ (λ (ring : List ℕ) (j : Journal). Holds u (record { ring = ring; fram = s .fram; handed = none; sessions = s .sessions; nonces = s .nonces; journal = j }))
+      subst₂ (λ (ring : List ℕ) (j : Journal). Holds u (record { ring = ring; fram = s .fram; handed = none; sessions = s .sessions; nonces = s .nonces; journal = j; form = s .form }))
       (sym (ap (λ (l : List ℕ). record-put (s .ring) (u .sizes .slots) (h .job .page) (h .job .slot) l) e ∙ recorded-is k))
       (sym (lost-record (s .journal) (k .c) (k .origin) (full (u .sizes .slots) (s .journal .count)) left (k .draft-is) not-blank))
-      (loss-holds u s inv new (s .fram) j (r .ringed .sizes) (inv .fram-right) (inr (k .c, r)) (none-match inv d))
+      (loss-holds u s inv new (s .fram) j (r .ringed .sizes) (inv .fram-right) (inr (k .c, r)) (none-match inv d) (now-reads inv d))
     where
       k : Working u s h (s .journal .count + 1) (record-slot ∷ last-erase u s)
       k = d .before .working
@@ -206,7 +228,7 @@ module _ (u : Setup) (s : State) (inv : Holds u s) (h : Handed) (left : List ℕ
           rw e (record-used (record-of (h .job .nonce) (h .job .half)) (length-record (h .job .nonce) (h .job .half) l)
           (is-record-of (h .job .nonce) (h .job .half) l (rw (k .half-is) (omega arith))))
   loss-in-record d (inr e) =
-      subst₂ (λ (ring : List ℕ) (j : Journal). Holds u (record { ring = ring; fram = s .fram; handed = none; sessions = s .sessions; nonces = s .nonces; journal = j }))
+      subst₂ (λ (ring : List ℕ) (j : Journal). Holds u (record { ring = ring; fram = s .fram; handed = none; sessions = s .sessions; nonces = s .nonces; journal = j; form = s .form }))
       (sym (ap (λ (l : List ℕ). record-put (s .ring) (u .sizes .slots) (h .job .page) (h .job .slot) l) e
       ∙ put-blank (s .ring) (u .sizes .slots) (h .job .page) (h .job .slot) within slot-blank))
       (sym (lost-no-record (s .journal) (k .c) (k .origin) (last-erase u s) left (k .draft-is) (ap blank e ∙ blank-erased slot-length)))

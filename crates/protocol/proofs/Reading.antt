@@ -1,11 +1,12 @@
 -- What an operation finds in memories that hold a recorded checkpoint.
 use Prim.Native.Nat.{ℕ, _+_, _-_}
-use mathlib.Core.Path.{_≡_, refl, subst, _∙_}
+use mathlib.Core.Path.{_≡_, refl, ap, subst, _∙_}
 use mathlib.Core.Bool.{Bool, true, false, _||_}
 use mathlib.Core.Option.{Option}
 use mathlib.Core.List.{List, [], _∷_, _++_, List·Memᴰ, List·Memᴰ·head, List·Memᴰ·tail}
 use native.Mathlib.Omega.{arith}
 use lib.ListN.{length, take, drop}
+use lib.Dec.{ltb}
 use Rattle.octets.specs.Limits.{nonce-length}
 use Rattle.octets.specs.Octets.{same}
 use Rattle.octets.proofs.Laws.{same-equal}
@@ -13,13 +14,13 @@ use Rattle.ring.specs.Ring.{read-ring, half-named, target-page, target-slot, re
 use Rattle.ring.proofs.RingLaws.{any}
 use Rattle.ring.proofs.FoundLaws.{found, read-is, record-is, used-is, targets}
 use Rattle.ring.proofs.RecordLaws.{half-named-of, nonce-of-record}
-use Rattle.checkpoint.specs.Checkpoint.{Checkpoint, sealed}
-use Rattle.checkpoint.specs.Half.{good-head, good-tag, stored, stored-restarts}
-use Rattle.checkpoint.specs.Fram.{fram-wrong, half-at}
-use Rattle.checkpoint.proofs.HalfLaws.{restarts-is, head-passes, tag-passes, read-back}
-use Rattle.checkpoint.proofs.FramLaws.{half-begins}
+use Rattle.checkpoint.specs.Checkpoint.{Form, Checkpoint, sealed, sealed-length}
+use Rattle.checkpoint.specs.Half.{read-as, open-length, secret-length, stored-open, good-head, good-tag, stored, stored-restarts}
+use Rattle.checkpoint.specs.Fram.{fram-wrong, half-length, half-at}
+use Rattle.checkpoint.proofs.HalfLaws.{Reads, read-as-is, open-length-is, secret-length-is, restarts-is, open-is, head-passes, tag-passes, read-back}
+use Rattle.checkpoint.proofs.FramLaws.{half-begins, half-long}
 use Rattle.protocol.specs.Calls.{Setup}
-use Rattle.protocol.specs.Operations.{newest-half}
+use Rattle.protocol.specs.Operations.{newest-half, outgrows}
 use Rattle.protocol.proofs.Invariant.{sealed-fits, half-of, page-in, slot-in, Recorded}
 
 none-used : (nonce : List ℕ) (nonces : List (List ℕ)) → (List·Memᴰ nonce nonces → ⊥) → (recs : List (List ℕ))
@@ -71,14 +72,38 @@ module _ {u : Setup} {ring fram : List ℕ} {nonces : List (List ℕ)} {entry : 
   unfolding newest-half
   newest-half-is = rw half-found half-holds
 
-  pub head-found : good-head (newest-half ring fram (u .sizes .slots) newest) ≡ true
-  head-found = rw newest-half-is (head-passes (u .key) c behind (r .good .range))
+  half-size : length (newest-half ring fram (u .sizes .slots) newest) ≡ half-length fram
+  unfolding newest-half
+  half-size = rw half-found (half-long fram (half-of count) right (omega arith))
 
-  pub tag-found : good-tag (u .key) (take nonce-length (newest-record ring (u .sizes .slots) newest)) (newest-half ring fram (u .sizes .slots) newest) ≡ true
-  tag-found = rw (nonce-found, newest-half-is) (tag-passes (u .key) c behind (r .good .range))
+  -- firmware of a form that reads the checkpoint's head
+  module _ (form : Form) (read : Reads form (c .form)) where
+    pub read-found : read-as form (newest-half ring fram (u .sizes .slots) newest) ≡ c .form
+    read-found = ap (λ (h : List ℕ). read-as form h) newest-half-is ∙ read-as-is (u .key) c behind (r .good .range) form read
 
-  pub restarts-found : stored-restarts (newest-half ring fram (u .sizes .slots) newest) ≡ c .restarts
-  restarts-found = rw newest-half-is (restarts-is (u .key) c behind (r .good .range))
+    -- what is read of the half is read of the sealed checkpoint in its own form
+    at-half : {A : Type 0} (f : Form → List ℕ → A) → f (read-as form (newest-half ring fram (u .sizes .slots) newest)) (newest-half ring fram (u .sizes .slots) newest) ≡ f (c .form) (sealed (u .key) c ++ behind)
+    at-half f = λ i. f (read-found i) (newest-half-is i)
 
-  pub checkpoint-found : stored (u .key) (take nonce-length (newest-record ring (u .sizes .slots) newest)) (newest-half ring fram (u .sizes .slots) newest) ≡ c
-  checkpoint-found = rw (nonce-found, newest-half-is) (read-back (u .key) c behind (r .good .range))
+    pub head-found : good-head (read-as form (newest-half ring fram (u .sizes .slots) newest)) (newest-half ring fram (u .sizes .slots) newest) ≡ true
+    head-found = at-half good-head ∙ head-passes (u .key) c behind (r .good .range)
+
+    pub tag-found : good-tag (read-as form (newest-half ring fram (u .sizes .slots) newest)) (u .key) (take nonce-length (newest-record ring (u .sizes .slots) newest)) (newest-half ring fram (u .sizes .slots) newest) ≡ true
+    tag-found = (λ i. good-tag (read-found i) (u .key) (nonce-found i) (newest-half-is i)) ∙ tag-passes (u .key) c behind (r .good .range)
+
+    pub restarts-found : stored-restarts (read-as form (newest-half ring fram (u .sizes .slots) newest)) (newest-half ring fram (u .sizes .slots) newest) ≡ c .restarts
+    restarts-found = at-half stored-restarts ∙ restarts-is (u .key) c behind (r .good .range)
+
+    pub open-length-found : open-length (read-as form (newest-half ring fram (u .sizes .slots) newest)) (newest-half ring fram (u .sizes .slots) newest) ≡ length (c .open-part)
+    open-length-found = at-half open-length ∙ open-length-is (u .key) c behind (r .good .range)
+
+    pub open-found : stored-open (read-as form (newest-half ring fram (u .sizes .slots) newest)) (newest-half ring fram (u .sizes .slots) newest) ≡ c .open-part
+    open-found = at-half stored-open ∙ open-is (u .key) c behind (r .good .range)
+
+    pub checkpoint-found : stored (read-as form (newest-half ring fram (u .sizes .slots) newest)) (u .key) (take nonce-length (newest-record ring (u .sizes .slots) newest)) (newest-half ring fram (u .sizes .slots) newest) ≡ c
+    checkpoint-found = (λ i. stored (read-found i) (u .key) (nonce-found i) (newest-half-is i)) ∙ read-back (u .key) c behind (r .good .range)
+
+    -- sealed anew, it outgrows the half or not
+    pub outgrows-found : outgrows form (newest-half ring fram (u .sizes .slots) newest) ≡ ltb (half-length fram) (sealed-length form (length (c .open-part)) (length (c .secret)))
+    unfolding outgrows
+    outgrows-found = λ i. ltb (half-size i) (sealed-length form (open-length-found i) ((at-half secret-length ∙ secret-length-is (u .key) c behind (r .good .range)) i))

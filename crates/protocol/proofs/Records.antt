@@ -18,7 +18,8 @@ use Rattle.ring.specs.Ring.{record-put, page-at, slot-at, is-record, ring-wrong
 use Rattle.ring.proofs.RingLaws.{Ringed, page-of, slot-of, last, joined, target-is-blank, record-next, record-first}
 use Rattle.ring.proofs.SizeLaws.{sized}
 use Rattle.ring.proofs.RecordLaws.{is-record-of, length-record, nonce-of-record}
-use Rattle.checkpoint.specs.Checkpoint.{Checkpoint, own-tag, sealed}
+use Rattle.checkpoint.specs.Checkpoint.{Form, Checkpoint, sealed}
+use Rattle.checkpoint.proofs.HalfLaws.{Reads, reads-own}
 use Rattle.checkpoint.specs.Half.{stored}
 use Rattle.checkpoint.specs.Fram.{half-length}
 use Rattle.protocol.specs.Types.{Session, Phase, Record, EraseAfter, Done}
@@ -27,7 +28,7 @@ use Rattle.protocol.specs.Operations.{Moved, job-record, session-of, in-
 use Rattle.protocol.specs.Journal.{Journal, Draft, Store, erase, erase-if, to-come, made, advanced}
 use Rattle.protocol.specs.History.{State, Handed}
 use Rattle.protocol.proofs.Facts.{no-fact}
-use Rattle.protocol.proofs.Invariant.{draft-of, Good, session-in, half-of, page-in, slot-in, DurableAt, Recorded, Durable, Working, last-erase, Recording, Holds, Moving}
+use Rattle.protocol.proofs.Invariant.{draft-of, Good, session-in, half-of, page-in, slot-in, DurableAt, Recorded, Durable, Working, last-erase, Recording, Matches, Holds, Moving}
 use Rattle.protocol.proofs.Advances.{Moves, call, after, advance-stores, after-going, after-ended, working-on, doing-of}
 
 last-snoc : (rs : List (List ℕ)) (r : List ℕ) → last (rs ++ r ∷ []) ≡ r
@@ -156,7 +157,7 @@ session-nonce {h = h} w = rw (w .nonce-is) (nonce-of-record (w .c .nonce) (h .jo
 module _ {u : Setup} {s : State} {h : Handed} {n : ℕ} {stores : List Store} (w : Working u s h n stores) where
   pub session-is : session-of (h .job) ≡ session-in u n (w .c)
   unfolding session-of job-record
-  session-is = λ i. record { page = w .page-is i; slot = w .slot-is i; latest = record-of (w .nonce-is i) (w .half-is i); tag = w .tag-is i }
+  session-is = λ i. record { page = w .page-is i; slot = w .slot-is i; latest = record-of (w .nonce-is i) (w .half-is i); tag = w .tag-is i; restarts = w .restarts-is i; packet = w .packet-is i }
 
   pub more-known : ((z : Session) → List·Memᴰ z (s .sessions) → List·Memᴰ (take nonce-length (z .latest)) (s .nonces))
       → (z : Session) → List·Memᴰ z (session-of (h .job) ∷ s .sessions) → List·Memᴰ (take nonce-length (z .latest)) (s .nonces)
@@ -166,14 +167,14 @@ module _ {u : Setup} {s : State} {h : Handed} {n : ℕ} {stores : List Store} (w
       go (inl e) = subst (λ (y : Session). List·Memᴰ (take nonce-length (y .latest)) (s .nonces)) (sym e) (rw (session-nonce w) (w .nonce-known))
       go (inr k) = f z k
 
-  pub more-match : ((z : Session) → List·Memᴰ z (s .sessions) → take nonce-length (z .latest) ≡ w .c .nonce → z .tag ≡ own-tag (u .key) (w .c))
+  pub more-match : ((z : Session) → List·Memᴰ z (s .sessions) → take nonce-length (z .latest) ≡ w .c .nonce → Matches u z (w .c))
       → (z : Session) → List·Memᴰ z (session-of (h .job) ∷ s .sessions) → (c : Checkpoint) → _≡_ {A = Option Checkpoint} (some (w .c)) (some c)
-      → take nonce-length (z .latest) ≡ c .nonce → z .tag ≡ own-tag (u .key) c
+      → take nonce-length (z .latest) ≡ c .nonce → Matches u z c
   unfolding session-of
-  more-match f z m c e = let q : w .c ≡ c = cc in subst (λ (y : Checkpoint). take nonce-length (z .latest) ≡ y .nonce → z .tag ≡ own-tag (u .key) y) q (go (List·Memᴰ·cases-cons m))
+  more-match f z m c e = let q : w .c ≡ c = cc in subst (λ (y : Checkpoint). take nonce-length (z .latest) ≡ y .nonce → Matches u z y) q (go (List·Memᴰ·cases-cons m))
     where
-      go : (z ≡ session-of (h .job)) ⊎ List·Memᴰ z (s .sessions) → take nonce-length (z .latest) ≡ w .c .nonce → z .tag ≡ own-tag (u .key) (w .c)
-      go (inl e) l = ap (λ (y : Session). y .tag) e ∙ w .tag-is
+      go : (z ≡ session-of (h .job)) ⊎ List·Memᴰ z (s .sessions) → take nonce-length (z .latest) ≡ w .c .nonce → Matches u z (w .c)
+      go (inl e) l = (ap (λ (y : Session). y .tag) e ∙ w .tag-is, ap (λ (y : Session). y .restarts) e ∙ w .restarts-is, ap (λ (y : Session). y .packet) e ∙ w .packet-is)
       go (inr k) l = f z k l
 
 -- ---- the advance
@@ -250,7 +251,7 @@ module _ {u : Setup} {s : State} {h : Handed} (inv : Holds u s) (x : Recording u
     next-slot-blank owing,
   )
 
-  recording-moves : h .job .phase ≡ Record → (b : Bool) → full (u .sizes .slots) (s .journal .count) ≡ b → advance (s .ring) (s .fram) (call u h)
+  recording-moves : h .job .phase ≡ Record → (b : Bool) → full (u .sizes .slots) (s .journal .count) ≡ b → advance (s .form) (s .ring) (s .fram) (call u h)
       ≡ cond b (going-on (h .job) (EraseAfter (page-before (u .sizes .pages) (page-in u (s .journal .count + 1)))) new (s .fram)) (ended (h .job) new (s .fram))
   unfolding store
   recording-moves e b f =
@@ -266,8 +267,14 @@ module _ {u : Setup} {s : State} {h : Handed} (inv : Holds u s) (x : Recording u
 
   -- no session handed out before is of the record's nonce
   pub none-match : (z : Session) → List·Memᴰ z (s .sessions) → (c : Checkpoint) → _≡_ {A = Option Checkpoint} (some (x .before .working .c)) (some c)
-      → take nonce-length (z .latest) ≡ c .nonce → z .tag ≡ own-tag (u .key) c
+      → take nonce-length (z .latest) ≡ c .nonce → Matches u z c
   none-match z m c e l = absurd (x .before .unlike z m (let q : x .before .working .c ≡ c = cc in l ∙ ap (λ (y : Checkpoint). y .nonce) (sym q)))
+
+  -- the firmware reads the head that it wrote
+  pub now-reads : (c : Checkpoint) → _≡_ {A = Option Checkpoint} (some (x .before .working .c)) (some c) → Reads (s .form) (c .form)
+  now-reads c e =
+      let q : x .before .working .c ≡ c = cc in
+      subst (λ (y : Checkpoint). Reads (s .form) (y .form)) q (subst (λ (f : Form). Reads (s .form) f) (sym (x .before .working .form-is)) (reads-own (s .form)))
 
   recording-go : h .job .phase ≡ Record → (b : Bool) → full (u .sizes .slots) (s .journal .count) ≡ b
       → Moves u s h (x .before .working .c) (x .before .working .origin) (erase-if b)
@@ -282,8 +289,9 @@ module _ {u : Setup} {s : State} {h : Handed} (inv : Holds u s) (x : Recording u
           durable = inr (x .before .working .c, recorded-now true f);
           sessions-known = inv .sessions-known;
           sessions-match = none-match;
+          reads-entry = now-reads;
           doing = doing-of u t k refl (record {
-            working = working-on t (erase ∷ []) phase (x .before .working) refl refl refl;
+            working = working-on t (erase ∷ []) phase (x .before .working) refl refl refl refl;
             recorded = refl;
             owed = refl;
             page-is = refl;
@@ -314,6 +322,7 @@ module _ {u : Setup} {s : State} {h : Handed} (inv : Holds u s) (x : Recording u
           durable = inr (x .before .working .c, recorded-now false f);
           sessions-known = more-known (x .before .working) (inv .sessions-known);
           sessions-match = more-match (x .before .working) (λ z m l. none-match z m (x .before .working .c) refl l);
+          reads-entry = now-reads;
           doing = doing-of u t k refl (d, refl, refl);
         };
         answered = refl;

@@ -1,5 +1,5 @@
 -- The theorem Recovery (document 01: demand 3, the cut rule).
-use Prim.Native.Nat.{ℕ, _+_}
+use Prim.Native.Nat.{ℕ, _+_, _≤_, _<_}
 use mathlib.Core.Path.{_≡_, refl, sym, ap, subst, _∙_}
 use mathlib.Core.Bool.{Bool, true, false, cond, _||_}
 use mathlib.Core.Logic.{inl, inr}
@@ -7,24 +7,25 @@ use mathlib.Core.Option.{Option, none, some}
 use mathlib.Core.List.{List, [], _∷_}
 use native.Mathlib.Omega.{arith}
 use lib.ListN.{length}
-use lib.Dec.{eqb}
-use borrow.Author.Tests.{eq-eqb, ne-eqb, le-ltb, eqb-true, eqb-false}
+use lib.Dec.{eqb, ltb}
+use borrow.Author.Tests.{eq-eqb, ne-eqb, le-ltb, lt-ltb, eqb-true, eqb-false, ltb-true, ltb-false}
 use Rattle.octets.specs.Limits.{part-limit, restart-limit, key-length, nonce-length}
 use Rattle.octets.specs.Octets.{put, blank}
 use Rattle.stops.specs.Stops.{first-of}
 use Rattle.ring.specs.Ring.{ring-wrong}
 use Rattle.ring.proofs.RingLaws.{read-blank}
 use Rattle.ring.proofs.FoundLaws.{not-blank, not-unreadable}
-use Rattle.checkpoint.specs.Checkpoint.{Checkpoint, sealed}
+use Rattle.checkpoint.specs.Checkpoint.{Form, Checkpoint, sealed, sealed-length}
+use Rattle.checkpoint.proofs.SealedLaws.{length-sealed, length-own-tag}
 use Rattle.checkpoint.specs.Fram.{fram-wrong, half-length}
 use Rattle.protocol.specs.Types.{PowerUp, Begun, Stopped}
 use Rattle.protocol.specs.Calls.{PowersUp, Setup, Event, powered-up}
 use Rattle.protocol.specs.Operations.{key-wrong, nonce-wrong, staging-wrong, state-wrong, Begin, begin, power-up-stop, power-up}
 use Rattle.protocol.specs.Journal.{Store, drafted, stores-of, power-up-draft}
 use Rattle.protocol.specs.History.{State, fresh, step, run, Allowed}
-use Rattle.protocol.specs.Recovery.{Exactly, Fits, Last, answers, Resumes, Outcome, Recovery}
+use Rattle.protocol.specs.Recovery.{Exactly, Fits, Last, answers, Resumes, Outgrown, Outcome, Recovery}
 use Rattle.protocol.proofs.Invariant.{draft-of, DurableAt, Untouched, Holds, Ended}
-use Rattle.protocol.proofs.Reading.{reads, new-nonce, head-found, tag-found, restarts-found}
+use Rattle.protocol.proofs.Reading.{reads, new-nonce, head-found, tag-found, restarts-found, outgrows-found}
 use Rattle.protocol.proofs.Starts.{started}
 use Rattle.protocol.proofs.PowerUps.{power-call, Entry, resuming-job, power-up-is, resuming-holds, step-is}
 use Rattle.protocol.proofs.Lists.{hold-run, exactly, exactly-uninterrupted, exactly-unfit, hold-fresh}
@@ -35,7 +36,7 @@ use Rattle.protocol.proofs.Looking.{seen}
 
 module _ (u : Setup) (s : State) (inv : Holds u s) (a : PowersUp) (key-long : length (u .key) ≡ key-length) (l : Last u s (power-call u a)) where
   abbrev stop : Option ℕ
-  stop = power-up-stop (s .ring) (s .fram) (power-call u a)
+  stop = power-up-stop (s .form) (s .ring) (s .fram) (power-call u a)
 
   sizes-pass : key-wrong (length (u .key)) || nonce-wrong (length (a .nonce)) ≡ false
   sizes-pass = rw (eq-eqb (length (u .key)) key-length key-long, eq-eqb (length (a .nonce)) nonce-length (l .nonce-long))
@@ -48,7 +49,12 @@ module _ (u : Setup) (s : State) (inv : Holds u s) (a : PowersUp) (key-long : le
   unfolding power-up-stop first-of
   stop-blank b = rw (inv .ring-right, inv .fram-right, sizes-pass, buffers-pass, read-blank (u .sizes .pages) (u .sizes .slots) (s .ring) (inv .ring-right) b)
 
-  pub stop-recorded : (c : Checkpoint) → Entry u s c → stop ≡ cond (eqb (c .restarts) restart-limit) (some 13) none
+  -- the entry sealed anew outgrows the half
+  abbrev large : Checkpoint → Bool
+  large c = ltb (half-length (s .fram)) (sealed-length (s .form) (length (c .open-part)) (length (c .secret)))
+
+  pub stop-recorded : (c : Checkpoint) → Entry u s c
+      → stop ≡ cond (eqb (c .restarts) restart-limit) (some 13) (cond (ltb (half-length (s .fram)) (sealed-length (s .form) (length (c .open-part)) (length (c .secret)))) (some 4) none)
   unfolding power-up-stop first-of
   stop-recorded c r =
       rw (
@@ -60,13 +66,14 @@ module _ (u : Setup) (s : State) (inv : Holds u s) (a : PowersUp) (key-long : le
         not-blank (s .journal .owed) (u .sizes .pages) (u .sizes .slots) (s .journal .count),
         not-unreadable (s .journal .owed) (u .sizes .pages) (u .sizes .slots) (s .journal .count),
         new-nonce (inv .fram-right) r (a .nonce) (l .nonce-new),
-        head-found (inv .fram-right) r,
-        tag-found (inv .fram-right) r,
-        restarts-found (inv .fram-right) r,
+        head-found (inv .fram-right) r (s .form) (inv .reads-entry c (r .entry-is)),
+        tag-found (inv .fram-right) r (s .form) (inv .reads-entry c (r .entry-is)),
+        restarts-found (inv .fram-right) r (s .form) (inv .reads-entry c (r .entry-is)),
+        outgrows-found (inv .fram-right) r (s .form) (inv .reads-entry c (r .entry-is)),
       )
 
   -- with nothing recorded
-  pub answer-stopped : (x : ℕ) → stop ≡ some x → power-up (s .ring) (s .fram) (power-call u a) .answer ≡ Stopped x
+  pub answer-stopped : (x : ℕ) → stop ≡ some x → power-up (s .form) (s .ring) (s .fram) (power-call u a) .answer ≡ Stopped x
   unfolding power-up begin
   answer-stopped x e = rw e
 
@@ -76,33 +83,58 @@ module _ (u : Setup) (s : State) (inv : Holds u s) (a : PowersUp) (key-long : le
       record {
         nothing = (λ q. x .no-entry, λ q. e);
         worn = (λ q. absurd (let z : _≡_ {A = ℕ} 0 1 = cc in omega arith), λ q. absurd (omega (arith, x .no-power-up)));
-        resumes = λ c q f. absurd (let p = x .no-entry in let z : _≡_ {A = ℕ} 0 1 = cc in omega arith);
+        outgrown = (λ q. absurd (let z : _≡_ {A = ℕ} 0 1 = cc in omega arith), λ q. absurd (let p = x .no-entry in let y = q .1 in let z : _≡_ {A = ℕ} 0 1 = cc in omega arith));
+        resumes = λ c q f g. absurd (let p = x .no-entry in let z : _≡_ {A = ℕ} 0 1 = cc in omega arith);
       }
 
   outcome-worn : (c : Checkpoint) → Entry u s c → c .restarts ≡ restart-limit → Outcome u s (power-call u a)
   outcome-worn c r w =
-      let e = answer-stopped 13 (stop-recorded c r ∙ ap (λ (b : Bool). cond b (some 13) none) (eq-eqb (c .restarts) restart-limit w)) in
+      let e = answer-stopped 13 (stop-recorded c r ∙ ap (λ (b : Bool). cond b (some 13) (cond (large c) (some 4) none)) (eq-eqb (c .restarts) restart-limit w)) in
       let p = r .entry-is in
       record {
         nothing = (λ q. absurd (let z : _≡_ {A = ℕ} 0 1 = cc in omega arith), λ q. absurd (let z : _≡_ {A = ℕ} 0 1 = cc in omega arith));
         worn = (λ q. r .restarts-are ∙ w, λ q. e);
-        resumes = λ c′ q f. absurd (f (r .restarts-are ∙ w));
+        outgrown = (λ q. absurd (let z : _≡_ {A = ℕ} 0 1 = cc in omega arith), λ q. absurd (q .2 (r .restarts-are ∙ w)));
+        resumes = λ c′ q f g. absurd (f (r .restarts-are ∙ w));
       }
 
-  module _ (c : Checkpoint) (r : Entry u s c) (few : c .restarts ≡ restart-limit → ⊥) where
-    pub stop-none : stop ≡ none
-    stop-none = stop-recorded c r ∙ ap (λ (b : Bool). cond b (some 13) none) (ne-eqb (c .restarts) restart-limit few)
+  -- the length of the entry sealed anew
+  pub resealed-long : (c : Checkpoint) → Entry u s c
+      → length (sealed (u .key) (power-up-draft (s .form) (u .key) (a .nonce) c)) ≡ sealed-length (s .form) (length (c .open-part)) (length (c .secret))
+  unfolding power-up-draft
+  resealed-long c r = length-sealed (u .key) (power-up-draft (s .form) (u .key) (a .nonce) c) (length-own-tag (u .key) c)
 
-    pub power-up-begins : power-up (s .ring) (s .fram) (power-call u a) ≡ record {
+  outcome-outgrown : (c : Checkpoint) → Entry u s c → (c .restarts ≡ restart-limit → ⊥)
+      → half-length (s .fram) < sealed-length (s .form) (length (c .open-part)) (length (c .secret)) → Outcome u s (power-call u a)
+  outcome-outgrown c r few large-one =
+      let w : large c ≡ true = lt-ltb (half-length (s .fram)) (sealed-length (s .form) (length (c .open-part)) (length (c .secret))) large-one in
+      let e = answer-stopped 4 (stop-recorded c r ∙ (λ i. cond (ne-eqb (c .restarts) restart-limit few i) (some 13) (cond (w i) (some 4) none))) in
+      let p = r .entry-is in
+      let g : Outgrown u s (power-call u a) c = rw (resealed-long c r) large-one in
+      record {
+        nothing = (λ q. absurd (let z : _≡_ {A = ℕ} 0 1 = cc in omega arith), λ q. absurd (let z : _≡_ {A = ℕ} 0 1 = cc in omega arith));
+        worn = (λ q. absurd (let z : _≡_ {A = ℕ} 0 1 = cc in omega arith), λ q. absurd (few (sym (r .restarts-are) ∙ q)));
+        outgrown = (λ q. (c, p, (λ k. few (sym (r .restarts-are) ∙ k)), g), λ q. e);
+        resumes = λ c′ q f f′. absurd (let z : c ≡ c′ = cc in f′ (subst (λ (y : Checkpoint). Outgrown u s (power-call u a) y) z g));
+      }
+
+  module _ (c : Checkpoint) (r : Entry u s c) (few : c .restarts ≡ restart-limit → ⊥)
+      (fits : sealed-length (s .form) (length (c .open-part)) (length (c .secret)) ≤ half-length (s .fram)) where
+    pub stop-none : stop ≡ none
+    stop-none =
+        let w : large c ≡ false = le-ltb (half-length (s .fram)) (sealed-length (s .form) (length (c .open-part)) (length (c .secret))) fits in
+        stop-recorded c r ∙ (λ i. cond (ne-eqb (c .restarts) restart-limit few i) (some 13) (cond (w i) (some 4) none))
+
+    pub power-up-begins : power-up (s .form) (s .ring) (s .fram) (power-call u a) ≡ record {
       answer = Begun;
-      job = resuming-job u s (power-up-draft (u .key) (a .nonce) c);
+      job = resuming-job u s (power-up-draft (s .form) (u .key) (a .nonce) c);
       secret-length = length (c .secret);
-      staging = put (a .staging) 0 (sealed (u .key) (power-up-draft (u .key) (a .nonce) c));
+      staging = put (a .staging) 0 (sealed (u .key) (power-up-draft (s .form) (u .key) (a .nonce) c));
       state = put (a .state) 0 (c .secret);
     }
     unfolding begin
     power-up-begins = power-up-is u s inv a c r
-        ∙ ap (λ (o : Option ℕ). begin o (u .key) (power-up-draft (u .key) (a .nonce) c) (resuming-job u s (power-up-draft (u .key) (a .nonce) c)) (a .staging) (a .state) (c .secret)) stop-none
+        ∙ ap (λ (o : Option ℕ). begin o (u .key) (power-up-draft (s .form) (u .key) (a .nonce) c) (resuming-job u s (power-up-draft (s .form) (u .key) (a .nonce) c)) (a .staging) (a .state) (c .secret)) stop-none
 
     resumes-entry : Resumes u s (power-call u a) c
     unfolding drafted power-up-draft
@@ -117,7 +149,7 @@ module _ (u : Setup) (s : State) (inv : Holds u s) (a : PowersUp) (key-long : le
     }
       where
         new : Checkpoint
-        new = power-up-draft (u .key) (a .nonce) c
+        new = power-up-draft (s .form) (u .key) (a .nonce) c
 
         t : State
         t = step u s (powered-up (power-call u a))
@@ -129,7 +161,7 @@ module _ (u : Setup) (s : State) (inv : Holds u s) (a : PowersUp) (key-long : le
         is = step-is u s inv a c r stop-none
 
         holds : Holds u t
-        holds = subst (λ (y : State). Holds u y) (sym is) (resuming-holds u s inv a c r (l .nonce-long) (l .staging) (l .nonce-new) few)
+        holds = subst (λ (y : State). Holds u y) (sym is) (resuming-holds u s inv a c r (l .nonce-long) (l .staging) (l .nonce-new) few fits)
 
         draft : t .journal .draft ≡ some (draft-of new PowerUp stores)
         draft = ap (λ (y : State). y .journal .draft) is ∙ (λ i. some (record { checkpoint = new; origin = PowerUp; power-ups = r .restarts-are i + 1; stores = stores }))
@@ -140,6 +172,13 @@ module _ (u : Setup) (s : State) (inv : Holds u s) (a : PowersUp) (key-long : le
         no-end : stores ≡ [] → Ended u t new
         no-end q = absurd (let k = ap (λ (z : List Store). length z) (y .2) in let k′ = ap (λ (z : List Store). length z) q in omega arith)
 
+    too-large : (d : Checkpoint) → s .journal .entry ≡ some d → Outgrown u s (power-call u a) d → ⊥
+    too-large d q g =
+        let p = r .entry-is in
+        let z : d ≡ c = cc in
+        let k : Outgrown u s (power-call u a) c = subst (λ (y : Checkpoint). Outgrown u s (power-call u a) y) z g in
+        omega (arith, k, resealed-long c r, fits)
+
     outcome-resumes : Outcome u s (power-call u a)
     outcome-resumes =
         let e = ap (λ (b : Begin). b .answer) power-up-begins in
@@ -147,39 +186,41 @@ module _ (u : Setup) (s : State) (inv : Holds u s) (a : PowersUp) (key-long : le
         record {
           nothing = (λ q. absurd (let z : _≡_ {A = ℕ} 0 1 = cc in omega arith), λ q. absurd (let z : _≡_ {A = ℕ} 0 1 = cc in omega arith));
           worn = (λ q. absurd (let z : _≡_ {A = ℕ} 0 1 = cc in omega arith), λ q. absurd (few (sym (r .restarts-are) ∙ q)));
-          resumes = λ c′ q f. let z : c ≡ c′ = cc in subst (λ (y : Checkpoint). Resumes u s (power-call u a) y) z resumes-entry;
+          outgrown = (λ q. absurd (let z : _≡_ {A = ℕ} 0 1 = cc in omega arith), λ q. absurd (too-large (q .0) (q .1) (q .3)));
+          resumes = λ c′ q f g. let z : c ≡ c′ = cc in subst (λ (y : Checkpoint). Resumes u s (power-call u a) y) z resumes-entry;
         }
 
-  outcome : Outcome u s (power-call u a)
+  pub outcome : Outcome u s (power-call u a)
   outcome = go (inv .durable)
     where
-      cases : (c : Checkpoint) → Entry u s c → (b : Bool) → eqb (c .restarts) restart-limit ≡ b → Outcome u s (power-call u a)
-      cases c r true e = outcome-worn c r (eqb-true (c .restarts) restart-limit e)
-      cases c r false e = outcome-resumes c r (eqb-false (c .restarts) restart-limit e)
+      cases : (c : Checkpoint) → Entry u s c → (b b′ : Bool) → eqb (c .restarts) restart-limit ≡ b → large c ≡ b′ → Outcome u s (power-call u a)
+      cases c r true b′ e f = outcome-worn c r (eqb-true (c .restarts) restart-limit e)
+      cases c r false true e f = outcome-outgrown c r (eqb-false (c .restarts) restart-limit e) (ltb-true _ _ f)
+      cases c r false false e f = outcome-resumes c r (eqb-false (c .restarts) restart-limit e) (ltb-false _ _ f)
 
       go : DurableAt u s (s .ring) (s .fram) (s .journal .owed) → Outcome u s (power-call u a)
       go (inl x) = outcome-blank x
-      go (inr (c, r)) = cases c r (eqb (c .restarts) restart-limit) refl
+      go (inr (c, r)) = cases c r (eqb (c .restarts) restart-limit) (large c) refl refl
 
-exactly-fresh : (u : Setup) (ring fram : List ℕ) → blank ring ≡ true → (events : List Event) → Allowed u (fresh ring fram) events
-    → (x y : Bool) → ring-wrong (u .sizes .pages) (u .sizes .slots) ring ≡ x → fram-wrong fram ≡ y → Exactly u (fresh ring fram) events
+exactly-fresh : (u : Setup) (form : Form) (ring fram : List ℕ) → blank ring ≡ true → (events : List Event) → Allowed u (fresh form ring fram) events
+    → (x y : Bool) → ring-wrong (u .sizes .pages) (u .sizes .slots) ring ≡ x → fram-wrong fram ≡ y → Exactly u (fresh form ring fram) events
 unfolding fresh
-exactly-fresh u ring fram b events k false false p q = exactly u events (fresh ring fram) (hold-fresh u ring fram p q b) k
-exactly-fresh u ring fram b events k true y p q = exactly-unfit u events (fresh ring fram) (record { wrong = inl p; none-handed = refl }) k
-exactly-fresh u ring fram b events k false true p q = exactly-unfit u events (fresh ring fram) (record { wrong = inr q; none-handed = refl }) k
+exactly-fresh u form ring fram b events k false false p q = exactly u events (fresh form ring fram) (hold-fresh u form ring fram p q b) k
+exactly-fresh u form ring fram b events k true y p q = exactly-unfit u events (fresh form ring fram) (record { wrong = inl p; none-handed = refl }) k
+exactly-fresh u form ring fram b events k false true p q = exactly-unfit u events (fresh form ring fram) (record { wrong = inr q; none-handed = refl }) k
 
 pub recovery : Recovery
 unfolding Recovery
-recovery u ring fram b events k = (
-  exactly-fresh u ring fram b events k (ring-wrong (u .sizes .pages) (u .sizes .slots) ring) (fram-wrong fram) refl refl,
-  λ f. (seen u (run u (fresh ring fram) events) (held f) (f .key-right), after-list f),
+recovery u form ring fram b events k = (
+  exactly-fresh u form ring fram b events k (ring-wrong (u .sizes .pages) (u .sizes .slots) ring) (fram-wrong fram) refl refl,
+  λ f. (seen u (run u (fresh form ring fram) events) (held f) (f .key-right), after-list f),
 )
   where
-    held : Fits u ring fram → Holds u (run u (fresh ring fram) events)
-    held f = hold-run u events (fresh ring fram) (hold-fresh u ring fram (f .ring-right) (f .fram-right) b) k
+    held : Fits u ring fram → Holds u (run u (fresh form ring fram) events)
+    held f = hold-run u events (fresh form ring fram) (hold-fresh u form ring fram (f .ring-right) (f .fram-right) b) k
 
-    after-list : Fits u ring fram → (a : PowersUp) → Last u (run u (fresh ring fram) events) a → Outcome u (run u (fresh ring fram) events) a
+    after-list : Fits u ring fram → (a : PowersUp) → Last u (run u (fresh form ring fram) events) a → Outcome u (run u (fresh form ring fram) events) a
     after-list f a l =
-        let s = run u (fresh ring fram) events in
+        let s = run u (fresh form ring fram) events in
         let path : power-call u a ≡ a = λ i. record { sizes = sym (l .sizes) i; key = sym (l .key) i; nonce = a .nonce; staging = a .staging; state = a .state } in
         subst (λ (y : PowersUp). Outcome u s y) path (outcome u s (held f) a (f .key-right) (subst (λ (y : PowersUp). Last u s y) (sym path) l))

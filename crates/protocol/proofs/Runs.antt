@@ -3,21 +3,22 @@ use Prim.Native.Nat.{ℕ, zero, suc, _+_, _/_, _%_}
 use mathlib.Core.Path.{_≡_, refl, sym, ap, subst, _∙_}
 use mathlib.Core.Bool.{Bool, true, false, cond, _&&_}
 use mathlib.Core.Logic.{inl, inr}
-use mathlib.Core.Option.{Option, some}
+use mathlib.Core.Option.{Option, none, some}
 use mathlib.Core.List.{List, [], _∷_, _++_, append-nil}
 use native.Mathlib.Omega.{arith}
 use lib.ListN.{length, replicate}
 use lib.Dec.{eqb, ltb}
 use Rattle.checkpoint.specs.Checkpoint.{Checkpoint, sealed}
-use Rattle.protocol.specs.Types.{Origin, Progress, GoingOn, Saved, Restored, Refused}
+use Rattle.protocol.specs.Types.{Origin, Phase, EraseFirst, Words, Record, EraseAfter, Done, Progress, GoingOn, Saved, Restored, Refused}
 use Rattle.protocol.specs.Calls.{Advances, Setup, Event, advanced-by}
-use Rattle.protocol.specs.Operations.{Moved, advance}
+use Rattle.protocol.specs.Operations.{Moved, stored-word, store, advance-stop, advance-by, advance}
 use Rattle.protocol.specs.Journal.{Journal, Draft, Store, erase, word, record-slot, erase-if, stores-of, made, advanced, entered}
-use Rattle.protocol.specs.History.{State, Handed, moved, left-by, step, run, refused, is-stopped, Keeps, Allowed}
+use Rattle.protocol.specs.History.{State, Handed, broken-fram, bytes-of, moved, left-by, step, run, refused, is-stopped, Keeps, Allowed}
 use Rattle.protocol.specs.Recovery.{advances-of}
 use Rattle.protocol.specs.Histories.{stores-left, to-its-end}
-use Rattle.protocol.proofs.Invariant.{draft-of, DurableAt, Holds, Ended}
-use Rattle.protocol.proofs.Advances.{Moves, call}
+use Rattle.protocol.proofs.Invariant.{draft-of, DurableAt, Doing, Holds, Ended}
+use Rattle.protocol.proofs.Advances.{Moves, call, word-kept}
+use Rattle.protocol.proofs.Exact.{store-leaves}
 use Rattle.protocol.proofs.Advancing.{advancing, going}
 use Rattle.protocol.proofs.PowerUps.{Entry}
 use Rattle.protocol.proofs.LastRun.{advances-on, stores-some}
@@ -35,6 +36,43 @@ moved-nonces s (Refused y) m staging j = refl
 advance-nonces : (u : Setup) (s : State) (a : Advances) → step u s (advanced-by a) .nonces ≡ s .nonces
 unfolding step left-by
 advance-nonces u s a = moved-nonces s _ _ _ _
+
+moved-form : (s : State) (x : Progress) (m : Moved) (staging : List ℕ) (j : Journal) → moved s x m staging j .form ≡ s .form
+unfolding moved
+moved-form s GoingOn m staging j = refl
+moved-form s Saved m staging j = refl
+moved-form s Restored m staging j = refl
+moved-form s (Refused y) m staging j = refl
+
+advance-form : (u : Setup) (s : State) (a : Advances) → step u s (advanced-by a) .form ≡ s .form
+unfolding step left-by
+advance-form u s a = moved-form s _ _ _ _
+
+moved-fram : (s : State) (x : Progress) (m : Moved) (staging : List ℕ) (j : Journal) → moved s x m staging j .fram ≡ m .fram
+unfolding moved
+moved-fram s GoingOn m staging j = refl
+moved-fram s Saved m staging j = refl
+moved-fram s Restored m staging j = refl
+moved-fram s (Refused y) m staging j = refl
+
+-- the FRAM keeps its length
+module _ (u : Setup) (s : State) (h : Handed) (inv : Holds u s) where
+  store-kept : (p : Phase) → Doing u s h p → length (store p (s .ring) (s .fram) (call u h) .fram) ≡ length (s .fram)
+  unfolding broken-fram bytes-of stored-word
+  store-kept (EraseFirst p) d = ap (λ (l : List ℕ). length l) (store-leaves (EraseFirst p) (s .ring) (s .fram) (call u h) .1)
+  store-kept (Words w) d = ap (λ (l : List ℕ). length l) (store-leaves (Words w) (s .ring) (s .fram) (call u h) .1) ∙ word-kept inv w (d .left) (d .left-is) (d .before)
+  store-kept Record d = ap (λ (l : List ℕ). length l) (store-leaves Record (s .ring) (s .fram) (call u h) .1)
+  store-kept (EraseAfter p) d = ap (λ (l : List ℕ). length l) (store-leaves (EraseAfter p) (s .ring) (s .fram) (call u h) .1)
+  store-kept Done d = ap (λ (l : List ℕ). length l) (store-leaves Done (s .ring) (s .fram) (call u h) .1)
+
+  advance-kept : (o : Option ℕ) → Doing u s h (h .job .phase) → length (advance-by o (s .ring) (s .fram) (call u h) .fram) ≡ length (s .fram)
+  unfolding advance-by
+  advance-kept (some x) d = refl
+  advance-kept none d = store-kept (h .job .phase) d
+
+  fram-long : s .handed ≡ some h → length (step u s (advanced-by (call u h)) .fram) ≡ length (s .fram)
+  unfolding step left-by advance
+  fram-long e = ap (λ (l : List ℕ). length l) (moved-fram s _ _ _ _) ∙ advance-kept (advance-stop (s .form) (s .ring) (s .fram) (call u h)) (inv .doing h e)
 
 advance-journal : (u : Setup) (s : State) (a : Advances) → refused s (advanced-by a) ≡ false
     → step u s (advanced-by a) .journal ≡ advanced (s .journal) (s .journal .draft)
@@ -66,15 +104,17 @@ pub record Made (u : Setup) (t : State) (c : Checkpoint) (origin : Origin) (even
   pub ended : rest ≡ [] → Ended u (run u t events) c
   pub count : run u t events .journal .count ≡ t .journal .count + records
   pub nonces : run u t events .nonces ≡ t .nonces
+  pub form : run u t events .form ≡ t .form
+  pub fram-long : length (run u t events .fram) ≡ length (t .fram)
 
 module _ (u : Setup) (c : Checkpoint) (origin : Origin) (rest : List Store) where
-  more-made : (x : Store) (first : List Store) (t : State) (h : Handed) → t .handed ≡ some h → t .journal .draft ≡ some (draft-of c origin (x ∷ (first ++ rest)))
+  more-made : (x : Store) (first : List Store) (t : State) (h : Handed) → Holds u t → t .handed ≡ some h → t .journal .draft ≡ some (draft-of c origin (x ∷ (first ++ rest)))
       → Moves u t h c origin (first ++ rest)
       → Made u (step u t (advanced-by (call u h))) c origin (advances-of u (length first) (step u t (advanced-by (call u h)))) (records-in first) rest
       → Made u t c origin (advanced-by (call u h) ∷ advances-of u (length first) (step u t (advanced-by (call u h)))) (records-in (x ∷ first)) rest
   unfolding Allowed run Keeps refused advanced
-  more-made x first t h e d m more =
-      let r : is-stopped (advance (t .ring) (t .fram) (call u h) .progress) ≡ false = ap is-stopped (m .answered) ∙ going origin (first ++ rest) in
+  more-made x first t h inv e d m more =
+      let r : is-stopped (advance (t .form) (t .ring) (t .fram) (call u h) .progress) ≡ false = ap is-stopped (m .answered) ∙ going origin (first ++ rest) in
       let j : step u t (advanced-by (call u h)) .journal ≡ made (t .journal) (draft-of c origin (x ∷ (first ++ rest))) (x ∷ (first ++ rest)) =
       advance-journal u t (call u h) r ∙ ap (λ (o : Option Draft). advanced (t .journal) o) d in
       record {
@@ -87,17 +127,19 @@ module _ (u : Setup) (c : Checkpoint) (origin : Origin) (rest : List Store) wher
         count = more .count ∙ ap (λ (k : Journal). k .count + records-in first) j
             ∙ made-count (t .journal) (draft-of c origin (x ∷ (first ++ rest))) x first (first ++ rest);
         nonces = more .nonces ∙ advance-nonces u t (call u h);
+        form = more .form ∙ advance-form u t (call u h);
+        fram-long = more .fram-long ∙ fram-long u t h inv e;
       }
 
   pub made-first : (first : List Store) (t : State) (h : Handed) → Holds u t → t .handed ≡ some h → t .journal .draft ≡ some (draft-of c origin (first ++ rest))
       → (first ++ rest ≡ [] → Ended u t c) → Made u t c origin (advances-of u (length first) t) (records-in first) rest
   unfolding Allowed run advances-of
   made-first [] t h inv e d f =
-      record { allowed = tt; holds = inv; draft-is = d; handed = h; handed-is = e; ended = f; count = omega arith; nonces = refl }
+      record { allowed = tt; holds = inv; draft-is = d; handed = h; handed-is = e; ended = f; count = omega arith; nonces = refl; form = refl; fram-long = refl }
   made-first (x ∷ first) t h inv e d f =
       let m = advancing u t h inv c origin x (first ++ rest) d e in
       let more = made-first first (step u t (advanced-by (call u h))) (m .handed) (m .holds) (m .handed-is) (m .draft-is) (m .ended) in
-      subst (λ (events : List Event). Made u t c origin events (records-in (x ∷ first)) rest) (sym (advances-on u (length first) t h e)) (more-made x first t h e d m more)
+      subst (λ (events : List Event). Made u t c origin events (records-in (x ∷ first)) rest) (sym (advances-on u (length first) t h e)) (more-made x first t h inv e d m more)
 
 -- ---- a start's stores hold one record
 
@@ -116,9 +158,15 @@ stores-record key slots j c = one-record (j .owed) (ltb 0 (j .count) && eqb (j .
 
 -- ---- a start and its stores
 
+-- the events are allowed, and keep the firmware's form and the FRAM's length
+pub record Passed (u : Setup) (s : State) (events : List Event) : Type 0 where
+  pub allowed : Allowed u s events
+  pub form : run u s events .form ≡ s .form
+  pub fram-long : length (run u s events .fram) ≡ length (s .fram)
+
 -- from state s, the start of a draft of c under `nonce` and all of its stores
 pub record Whole (u : Setup) (s : State) (c : Checkpoint) (nonce : List ℕ) (events : List Event) : Type 0 where
-  pub allowed : Allowed u s events
+  pub passed : Passed u s events
   pub holds : Holds u (run u s events)
   pub ended : Ended u (run u s events) c
   pub count : run u s events .journal .count ≡ s .journal .count + 1
@@ -128,12 +176,13 @@ pub whole : (u : Setup) (s : State) (e : Event) (c : Checkpoint) (origin : Origi
     → Holds u (step u s e) → step u s e .handed ≡ some h
     → step u s e .journal .draft
     ≡ some (draft-of c origin (stores-of (u .key) (u .sizes .slots) (s .journal) c))
-    → step u s e .journal .count ≡ s .journal .count → step u s e .nonces ≡ nonce ∷ s .nonces → Whole u s c nonce (to-its-end u s e)
+    → step u s e .journal .count ≡ s .journal .count → step u s e .nonces ≡ nonce ∷ s .nonces
+    → step u s e .form ≡ s .form → step u s e .fram ≡ s .fram → Whole u s c nonce (to-its-end u s e)
 unfolding to-its-end Allowed run stores-left
-whole u s e c origin nonce h k inv q d n m =
+whole u s e c origin nonce h k inv q d n m o r =
     subst (λ (l : ℕ). Whole u s c nonce (e ∷ advances-of u l (step u s e))) (sym (ap stores-left d))
     (record {
-      allowed = (inr k, f .allowed);
+      passed = record { allowed = (inr k, f .allowed); form = f .form ∙ o; fram-long = f .fram-long ∙ ap (λ (l : List ℕ). length l) r };
       holds = f .holds;
       ended = f .ended refl;
       count = f .count ∙ (λ i. n i + stores-record (u .key) (u .sizes .slots) (s .journal) c i);
@@ -158,6 +207,13 @@ pub allowed-append : (u : Setup) (xs ys : List Event) (s : State) → Allowed u 
 unfolding run Allowed
 allowed-append u [] ys s k l = l
 allowed-append u (e ∷ xs) ys s (k, m) l = (k, allowed-append u xs ys (step u s e) m l)
+
+pub passed-append : (u : Setup) (xs ys : List Event) (s : State) → Passed u s xs → Passed u (run u s xs) ys → Passed u s (xs ++ ys)
+passed-append u xs ys s p q = record {
+  allowed = allowed-append u xs ys s (p .allowed) (q .allowed);
+  form = ap (λ (t : State). t .form) (run-append u xs ys s) ∙ q .form ∙ p .form;
+  fram-long = ap (λ (t : State). length (t .fram)) (run-append u xs ys s) ∙ q .fram-long ∙ p .fram-long;
+}
 
 -- ---- the journal's entry is recorded
 

@@ -14,7 +14,7 @@ use Rattle.octets.proofs.Laws.{length-put, put-within}
 use Rattle.octets.specs.Limits.{part-limit}
 use Rattle.stops.proofs.Laws.{neither}
 use Rattle.checkpoint.proofs.SealedLaws.{part-sizes}
-use Rattle.checkpoint.specs.Checkpoint.{Checkpoint, sealed, sealed-length}
+use Rattle.checkpoint.specs.Checkpoint.{Form, Checkpoint, sealed, sealed-length}
 use Rattle.checkpoint.specs.Half.{stored}
 use Rattle.checkpoint.specs.Fram.{half-length}
 use Rattle.protocol.specs.Types.{Origin, Job, Phase, EraseFirst, Words}
@@ -39,6 +39,7 @@ started u s c origin power-ups job staging = record {
   sessions = s .sessions;
   nonces = c .nonce ∷ s .nonces;
   journal = drafted (u .key) (u .sizes .slots) origin c power-ups (s .journal);
+  form = s .form;
 }
 
 more-nonces : {u : Setup} {ring fram : List ℕ} {nonces : List (List ℕ)} {entry : Option Checkpoint} {count : ℕ} {owed : Bool} {power-ups : ℕ} (nonce : List ℕ)
@@ -73,7 +74,7 @@ unfolding stores-of erase-if
 owing key slots j c left o e = rw (o, e)
 
 module _ (u : Setup) (s : State) (inv : Holds u s) (c : Checkpoint) (origin : Origin) (phase : Phase) (half page slot : ℕ) (staging : List ℕ)
-    (good : Good c (half-length (s .fram))) (fresh-nonce : List·Memᴰ (c .nonce) (s .nonces) → ⊥) (long : half-length (s .fram) ≤ length staging)
+    (good : Good c (half-length (s .fram))) (form-is : c .form ≡ s .form) (fresh-nonce : List·Memᴰ (c .nonce) (s .nonces) → ⊥) (long : half-length (s .fram) ≤ length staging)
     (half-is : half ≡ half-of (s .journal .count + 1)) (page-is : page ≡ page-in u (s .journal .count + 1))
     (slot-is : slot ≡ slot-in u (s .journal .count + 1)) (power-ups : ℕ) (restarts-are : power-ups ≡ c .restarts) where
   abbrev job : Job
@@ -107,6 +108,7 @@ module _ (u : Setup) (s : State) (inv : Holds u s) (c : Checkpoint) (origin : Or
     working = record {
       c = c;
       origin = origin;
+      form-is = form-is;
       draft-is = λ i. some (record { checkpoint = c; origin = origin; power-ups = restarts-are i; stores = e i });
       good = good;
       nonce-known = List·Memᴰ·head refl;
@@ -117,6 +119,8 @@ module _ (u : Setup) (s : State) (inv : Holds u s) (c : Checkpoint) (origin : Or
       slot-is = slot-is;
       nonce-is = refl;
       tag-is = refl;
+      restarts-is = refl;
+      packet-is = refl;
       staging-long = rw (length-put staging 0 (sealed (u .key) c) (omega (arith, sealed-within))) long;
       staged = λ k l. put-within staging (sealed (u .key) c) 0 k (omega arith) l;
     };
@@ -150,6 +154,7 @@ module _ (u : Setup) (s : State) (inv : Holds u s) (c : Checkpoint) (origin : Or
     durable = more-nonces (c .nonce) (inv .durable);
     sessions-known = λ z m. List·Memᴰ·tail (inv .sessions-known z m);
     sessions-match = inv .sessions-match;
+    reads-entry = inv .reads-entry;
     doing = doing-of u t h refl (start-doing b);
   }
 
@@ -170,36 +175,37 @@ module _ (s : State) (o : Option ℕ) (key : List ℕ) (c : Checkpoint) (job : J
     sessions = s .sessions;
     nonces = nonce ∷ s .nonces;
     journal = j;
+    form = s .form;
   }
   unfolding begin begun is-stop
   begun-none e = rw e
 
 -- ---- parts that pass
 
-pub record Parts (open-part secret : List ℕ) (half staging : ℕ) : Type 0 where
+pub record Parts (form : Form) (open-part secret : List ℕ) (half staging : ℕ) : Type 0 where
   pub open-passes : (length open-part % 4 ≡ 0) × (length open-part ≤ part-limit)
   pub secret-passes : (length secret % 4 ≡ 0) × (length secret ≤ part-limit)
-  pub fits : sealed-length (length open-part) (length secret) ≤ half
+  pub fits : sealed-length form (length open-part) (length secret) ≤ half
   pub staging-long : half ≤ staging
 
-pub parts-pass : (open-part secret fram staging : List ℕ) → parts-wrong open-part secret fram || staging-wrong staging fram ≡ false
-    → Parts open-part secret (half-length fram) (length staging)
+pub parts-pass : (form : Form) (open-part secret fram staging : List ℕ) → parts-wrong form open-part secret fram || staging-wrong staging fram ≡ false
+    → Parts form open-part secret (half-length fram) (length staging)
 unfolding parts-wrong staging-wrong
-parts-pass open-part secret fram staging e =
+parts-pass form open-part secret fram staging e =
     let a = neither _ _ e in
     let b = neither _ _ (a .0) in
     let c = neither _ _ (b .0) in
     record {
       open-passes = part-sizes open-part (c .0);
       secret-passes = part-sizes secret (c .1);
-      fits = ltb-false (half-length fram) (sealed-length (length open-part) (length secret)) (b .1);
+      fits = ltb-false (half-length fram) (sealed-length form (length open-part) (length secret)) (b .1);
       staging-long = ltb-false (length staging) (half-length fram) (a .1);
     }
 
 -- the same arguments with the unit's sizes and key
 abbrev pub save-arguments : Setup → SaveArguments → SaveArguments
-save-arguments u a = record { sizes = u .sizes; key = u .key; nonce = a .nonce; open-part = a .open-part; secret = a .secret; staging = a .staging }
+save-arguments u a = record { sizes = u .sizes; key = u .key; nonce = a .nonce; packet = a .packet; open-part = a .open-part; secret = a .secret; staging = a .staging }
 
 -- they are the same where document 01's rules are kept
 pub same-arguments : (u : Setup) (a : SaveArguments) → a .sizes ≡ u .sizes → a .key ≡ u .key → save-arguments u a ≡ a
-same-arguments u a p q = λ i. record { sizes = sym p i; key = sym q i; nonce = a .nonce; open-part = a .open-part; secret = a .secret; staging = a .staging }
+same-arguments u a p q = λ i. record { sizes = sym p i; key = sym q i; nonce = a .nonce; packet = a .packet; open-part = a .open-part; secret = a .secret; staging = a .staging }

@@ -12,7 +12,7 @@ use Rattle.ring.specs.Ring.{ring-wrong}
 use Rattle.checkpoint.specs.Checkpoint.{Checkpoint}
 use Rattle.checkpoint.specs.Fram.{fram-wrong}
 use Rattle.protocol.specs.Types.{Job}
-use Rattle.protocol.specs.Calls.{Sizes, Setup, Event, first-saved, saved, powered-up, advanced-by, PowerLoss, lost-in-store}
+use Rattle.protocol.specs.Calls.{Sizes, Setup, Event, first-saved, saved, powered-up, advanced-by, PowerLoss, Updated, lost-in-store}
 use Rattle.protocol.specs.Operations.{begin, first-save-stop, first-save, save-stop, save, power-up-stop, power-up}
 use Rattle.protocol.specs.History.{State, Handed, left-by, step, is-stop, refused, Keeps}
 use Rattle.protocol.specs.Recovery.{Follows}
@@ -53,6 +53,7 @@ module _ (u : Setup) (s : State) (x : Unfit u s) where
   unfit-keeps (powered-up a) (p, q, f) = stays (powered-up a) (begin-stops _ _ _ _ _ _ _ (two-stop _ _ _ (at-sizes (a .sizes) p)))
   unfit-keeps (advanced-by a) (p, e) = not-handed (s .handed) _ (x .none-handed) e
   unfit-keeps PowerLoss k = record { wrong = x .wrong; none-handed = refl }
+  unfit-keeps Updated k = record { wrong = x .wrong; none-handed = refl }
   unfit-keeps (lost-in-store left) (h, e, l) = not-handed (s .handed) h (x .none-handed) e
 
   pub unfit-step : (e : Event) → T (refused s e) ⊎ Keeps u s e → Unfit u (step u s e)
@@ -66,4 +67,5 @@ module _ (u : Setup) (s : State) (x : Unfit u s) where
   unfit-told (powered-up a) = tt
   unfit-told (advanced-by a) = λ k. not-handed (s .handed) _ (x .none-handed) (k .1)
   unfit-told PowerLoss = tt
+  unfit-told Updated = tt
   unfit-told (lost-in-store left) = tt

@@ -1,16 +1,18 @@
--- The theorem's premises can be met: every unit has lists that record as many checkpoints as one likes, and up to eight power-ups in a row,
--- and there is one with a power loss in an erase.
+-- The theorem's premises can be met: every unit, with firmware of either form, has lists that record as many checkpoints as one likes, and up to
+-- eight power-ups in a row; there are lists of stale repeats and of a newer packet, with a power loss in an erase, and with an update.
 use Prim.Native.Nat.{ℕ, zero, suc, _+_, _-_, _*_, _/_, _%_, _^_, _≤_, _<_}
 use mathlib.Core.Path.{_≡_}
 use mathlib.Core.Bool.{true}
 use mathlib.Core.Option.{Option, none, some}
 use mathlib.Core.List.{List, [], _∷_, _++_}
 use lib.ListN.{length, replicate}
-use Rattle.octets.specs.Limits.{pages-least, slots-least, slot-length, fram-least, fram-limit, key-length, part-limit, restart-limit, nonce-length, tag-length}
+use Rattle.octets.specs.Limits.{pages-least, slots-least, slot-length, fram-limit, key-length, part-limit, restart-limit, nonce-length, tag-length}
 use Rattle.octets.specs.Octets.{blank, erased, bytes}
 use Rattle.ring.specs.Ring.{At, AtPending, read-ring}
-use Rattle.protocol.specs.Types.{Session, EraseFirst}
-use Rattle.protocol.specs.Calls.{sizes, SaveArguments, FirstSave, Saves, PowersUp, Setup, Event, first-saved, saved, powered-up, lost-in-store}
+use Rattle.checkpoint.specs.Checkpoint.{Form, Older, Longer, Checkpoint, empty-length}
+use Rattle.checkpoint.specs.Fram.{half-length}
+use Rattle.protocol.specs.Types.{Session, EraseFirst, Stopped}
+use Rattle.protocol.specs.Calls.{sizes, SaveArguments, FirstSave, Saves, PowersUp, Setup, Event, first-saved, saved, powered-up, Updated, lost-in-store}
 use Rattle.protocol.specs.Operations.{power-up}
 use Rattle.protocol.specs.Journal.{Draft}
 use Rattle.protocol.specs.History.{State, fresh, step, run, Allowed}
@@ -35,14 +37,14 @@ staging-room = replicate (fram-limit / 2) 0
 unfoldable pub state-room : List ℕ
 state-room = replicate part-limit 0
 
-abbrev pub numbered-arguments : Setup → ℕ → SaveArguments
-numbered-arguments u i = record { sizes = u .sizes; key = u .key; nonce = bytes nonce-length i; open-part = []; secret = []; staging = staging-room }
+abbrev pub numbered-arguments : Setup → ℕ → ℕ → SaveArguments
+numbered-arguments u i packet = record { sizes = u .sizes; key = u .key; nonce = bytes nonce-length i; packet = packet; open-part = []; secret = []; staging = staging-room }
 
 abbrev pub numbered-first : Setup → ℕ → FirstSave
-numbered-first u i = record { arguments = numbered-arguments u i; starting-tag = replicate tag-length 0 }
+numbered-first u i = record { arguments = numbered-arguments u i 0; starting-tag = replicate tag-length 0 }
 
-abbrev pub numbered-save : Setup → ℕ → Session → Saves
-numbered-save u i z = record { arguments = numbered-arguments u i; session = z }
+abbrev pub numbered-save : Setup → ℕ → ℕ → Session → Saves
+numbered-save u i packet z = record { arguments = numbered-arguments u i packet; session = z }
 
 abbrev pub numbered-power-up : Setup → ℕ → PowersUp
 numbered-power-up u i = record { sizes = u .sizes; key = u .key; nonce = bytes nonce-length i; staging = staging-room; state = state-room }
@@ -53,11 +55,11 @@ unfoldable pub with-session : List Session → (Session → List Event) → List
 with-session [] f = []
 with-session (z ∷ earlier) f = f z
 
--- n saves, each with the session handed out last, numbered from i on
+-- n saves, each with the session handed out last and packet number 0, numbered from i on
 unfoldable pub saves-on : Setup → ℕ → ℕ → State → List Event
 saves-on u i zero s = []
 saves-on u i (suc n) s = with-session (s .sessions) (λ z.
-    let events = to-its-end u s (saved (numbered-save u i z)) in events ++ saves-on u (suc i) n (run u s events))
+    let events = to-its-end u s (saved (numbered-save u i 0 z)) in events ++ saves-on u (suc i) n (run u s events))
 
 -- n power-ups, numbered from i on
 unfoldable pub power-ups-on : Setup → ℕ → ℕ → State → List Event
@@ -79,42 +81,125 @@ pub record Reached (u : Setup) (s : State) (events : List Event) (n k : ℕ) : T
   pub power-ups : run u s events .journal .power-ups ≡ k
   pub newest : read-ring (run u s events .ring) (u .sizes .pages) (u .sizes .slots) ≡ At ((n + k) / u .sizes .slots % u .sizes .pages) ((n + k) % u .sizes .slots)
 
--- for every unit; the bound is that of a 12-byte number, since no nonce repeats
+-- for every unit whose halves have room; the bound is that of a 12-byte number, since no nonce repeats
 unfoldable pub Reachable : Type 0
 Reachable =
-    (u : Setup) (ring fram : List ℕ) → blank ring ≡ true → Fits u ring fram
-    → (n k : ℕ) → k ≤ restart-limit → n + k + 1 < 2 ^ 96 → Reached u (fresh ring fram) (history u (fresh ring fram) n k) n k
+    (u : Setup) (form : Form) (ring fram : List ℕ) → blank ring ≡ true → Fits u ring fram → empty-length form ≤ half-length fram
+    → (n k : ℕ) → k ≤ restart-limit → n + k + 1 < 2 ^ 96 → Reached u (fresh form ring fram) (history u (fresh form ring fram) n k) n k
 
--- ---- three lists of the smallest unit
+-- ---- stale repeats
+
+-- n times a power-up and a save with the session that it hands out, numbered from i on
+unfoldable pub repeats-on : Setup → ℕ → ℕ → State → List Event
+repeats-on u i zero s = []
+repeats-on u i (suc n) s =
+    let up = to-its-end u s (powered-up (numbered-power-up u i)) in
+    let t = run u s up in
+    let again = saves-on u (suc i) 1 t in
+    up ++ (again ++ repeats-on u (suc (suc i)) n (run u t again))
+
+-- a first save, then k such repeats: in the longer form no save sets restarts to 0, since each brings packet number 0 again, and so k power-ups are counted
+unfoldable pub repeats : Setup → State → ℕ → List Event
+repeats u s k = let first = to-its-end u s (first-saved (numbered-first u 0)) in first ++ repeats-on u 1 k (run u s first)
+
+unfoldable pub StaleRepeats : Type 0
+StaleRepeats =
+    (u : Setup) (ring fram : List ℕ) → blank ring ≡ true → Fits u ring fram → empty-length Longer ≤ half-length fram → (k : ℕ) → k ≤ restart-limit
+    → Allowed u (fresh Longer ring fram) (repeats u (fresh Longer ring fram) k) × (run u (fresh Longer ring fram) (repeats u (fresh Longer ring fram) k) .journal .power-ups ≡ k)
+    × (run u (fresh Longer ring fram) (repeats u (fresh Longer ring fram) k) .journal .count ≡ 2 * k + 1)
+
+-- ---- a newer packet
+
+-- a first save, k power-ups, and a save that has heard packet 1
+unfoldable pub newer : Setup → State → ℕ → List Event
+newer u s k =
+    let before = history u s 0 k in
+    let t = run u s before in
+    before ++ with-session (t .sessions) (λ z. to-its-end u t (saved (numbered-save u (k + 1) 1 z)))
+
+-- it sets restarts to 0, and its packet number is stored
+unfoldable pub NewerPacket : Type 0
+NewerPacket =
+    (u : Setup) (ring fram : List ℕ) → blank ring ≡ true → Fits u ring fram → empty-length Longer ≤ half-length fram → (k : ℕ) → k ≤ restart-limit
+    → let events = newer u (fresh Longer ring fram) k in
+    let s = run u (fresh Longer ring fram) events in
+    Allowed u (fresh Longer ring fram) events × (s .journal .power-ups ≡ 0)
+    × (c : Checkpoint) × (s .journal .entry ≡ some c) × (c .restarts ≡ 0) × (c .packet ≡ 1)
+
+-- ---- an update
+
+-- older firmware's first save and m power-ups, the update, and k power-ups of the firmware of the longer form
+unfoldable pub updating : Setup → State → ℕ → ℕ → List Event
+updating u s m k =
+    let older = history u s 0 m in
+    older ++ Updated ∷ power-ups-on u (m + 1) k (step u (run u s older) Updated)
+
+-- where halves have room for the longer form, k + 1 power-ups after the update are counted with those before it, and the entry is of the longer form
+unfoldable pub Updates : Type 0
+Updates =
+    (u : Setup) (ring fram : List ℕ) → blank ring ≡ true → Fits u ring fram → empty-length Longer ≤ half-length fram → (m k : ℕ) → m + k < restart-limit
+    → let events = updating u (fresh Older ring fram) m (suc k) in
+    let s = run u (fresh Older ring fram) events in
+    Allowed u (fresh Older ring fram) events × (s .journal .power-ups ≡ m + k + 1)
+    × (c : Checkpoint) × (s .journal .entry ≡ some c) × (c .form ≡ Longer)
+
+-- ---- lists of the smallest unit
 
 unfoldable pub smallest : Setup
 smallest = record { sizes = sizes pages-least slots-least; key = replicate key-length 0 }
 
--- a blank ring of 6 slots and a FRAM of 88 bytes
-unfoldable pub bench-state : State
-bench-state = fresh (erased (slot-length * 6)) (replicate fram-least 0)
+-- the smallest FRAM that holds checkpoints of a form: 88 bytes or 96
+abbrev pub bench-fram : Form → List ℕ
+bench-fram room = replicate (2 * empty-length room) 0
+
+-- firmware of a form with a blank ring of 6 slots, and a FRAM that has room for another form
+unfoldable pub bench-state : Form → Form → State
+bench-state form room = fresh form (erased (slot-length * 6)) (bench-fram room)
 
 -- a start, and then an advance for each store to come but the last, in which the power fails and leaves `left`
 unfoldable pub but-the-last : Setup → State → Event → List ℕ → List Event
 but-the-last u s e left = let t = step u s e in (e ∷ advances-of u (stores-left (t .journal .draft) - 1) t) ++ lost-in-store left ∷ []
 
 -- a first save and two saves; the third record is the first of page 1, and the power fails in the erase of page 0 after it, which leaves zeros
-unfoldable pub interrupted : List Event
-interrupted =
-    let two = history smallest bench-state 1 0 in
-    let s = run smallest bench-state two in
-    two ++ with-session (s .sessions) (λ z. but-the-last smallest s (saved (numbered-save smallest 2 z)) (replicate (slot-length * slots-least) 0))
+unfoldable pub interrupted : Form → Form → List Event
+interrupted form room =
+    let two = history smallest (bench-state form room) 1 0 in
+    let s = run smallest (bench-state form room) two in
+    two ++ with-session (s .sessions) (λ z. but-the-last smallest s (saved (numbered-save smallest 2 0 z)) (replicate (slot-length * slots-least) 0))
 
 -- page 0 is then pending; a power-up erases it first, and run to its end leaves its own record behind the third
-pub record Interrupted : Type 0 where
-  pub pending : read-ring (run smallest bench-state interrupted .ring) pages-least slots-least ≡ AtPending 1 0
-  pub erases-first : let s = run smallest bench-state interrupted in power-up (s .ring) (s .fram) (numbered-power-up smallest 3) .job .phase ≡ EraseFirst 0
-  pub allowed : Allowed smallest bench-state (interrupted ++ to-its-end smallest (run smallest bench-state interrupted) (powered-up (numbered-power-up smallest 3)))
+pub record Interrupted (form room : Form) : Type 0 where
+  pub pending : read-ring (run smallest (bench-state form room) (interrupted form room) .ring) pages-least slots-least ≡ AtPending 1 0
+  pub erases-first : let s = run smallest (bench-state form room) (interrupted form room) in power-up (s .form) (s .ring) (s .fram) (numbered-power-up smallest 3) .job .phase ≡ EraseFirst 0
+  pub allowed : Allowed smallest (bench-state form room) (interrupted form room ++ to-its-end smallest (run smallest (bench-state form room) (interrupted form room)) (powered-up (numbered-power-up smallest 3)))
   pub newest :
-      let events = to-its-end smallest (run smallest bench-state interrupted) (powered-up (numbered-power-up smallest 3)) in
-      read-ring (run smallest bench-state (interrupted ++ events) .ring) pages-least slots-least ≡ At 1 1
+      let events = to-its-end smallest (run smallest (bench-state form room) (interrupted form room)) (powered-up (numbered-power-up smallest 3)) in
+      read-ring (run smallest (bench-state form room) (interrupted form room ++ events) .ring) pages-least slots-least ≡ At 1 1
 
 -- eight power-ups in a row after the first save; six saves after it, so that the seventh record is the first of the second round; and a power loss
 unfoldable pub Examples : Type 0
 Examples =
-    Reached smallest bench-state (history smallest bench-state 0 8) 0 8 × Reached smallest bench-state (history smallest bench-state 6 0) 6 0 × Interrupted
+    (form : Form) → Reached smallest (bench-state form form) (history smallest (bench-state form form) 0 restart-limit) 0 restart-limit
+    × Reached smallest (bench-state form form) (history smallest (bench-state form form) 6 0) 6 0 × Interrupted form form
+
+-- older firmware whose power failed in the erase, and which was updated then: the power-up erases first and seals anew in the longer form, and a save follows
+pub record UpdatedInErase : Type 0 where
+  pub erases-first :
+      let t = step smallest (run smallest (bench-state Older Longer) (interrupted Older Longer)) Updated in
+      power-up (t .form) (t .ring) (t .fram) (numbered-power-up smallest 3) .job .phase ≡ EraseFirst 0
+  pub allowed :
+      let t = step smallest (run smallest (bench-state Older Longer) (interrupted Older Longer)) Updated in
+      let up = to-its-end smallest t (powered-up (numbered-power-up smallest 3)) in
+      Allowed smallest (bench-state Older Longer) (interrupted Older Longer ++ Updated ∷ (up ++ saves-on smallest 4 1 (run smallest t up)))
+  pub newest :
+      let t = step smallest (run smallest (bench-state Older Longer) (interrupted Older Longer)) Updated in
+      let up = to-its-end smallest t (powered-up (numbered-power-up smallest 3)) in
+      let s = run smallest (bench-state Older Longer) (interrupted Older Longer ++ Updated ∷ (up ++ saves-on smallest 4 1 (run smallest t up))) in
+      (read-ring (s .ring) pages-least slots-least ≡ At 2 0) × (s .journal .power-ups ≡ 1)
+
+-- a unit with 88 bytes of FRAM, updated after its first save: the checkpoint sealed anew outgrows the half, and the power-up gives 4
+unfoldable pub OutgrownExample : Type 0
+OutgrownExample =
+    let events = history smallest (bench-state Older Older) 0 0 ++ Updated ∷ [] in
+    let s = run smallest (bench-state Older Older) events in
+    Allowed smallest (bench-state Older Older) events × (power-up (s .form) (s .ring) (s .fram) (numbered-power-up smallest 1) .answer ≡ Stopped 4)

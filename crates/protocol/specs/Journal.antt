@@ -1,4 +1,4 @@
--- The reference that the theorem compares with (document 01, "Runs, cuts and the book": the book).
+-- The reference that the theorem compares with (document 01, "Runs, cuts and the book": the book; and document 02, A.2).
 -- It never sees the memories: `entered` is its only way to change.
 use Prim.Native.Nat.{ℕ, _+_, _/_, _%_}
 use mathlib.Core.Bool.{Bool, true, false, not, cond, _&&_}
@@ -7,9 +7,9 @@ use mathlib.Core.List.{List, [], _∷_, _++_}
 use lib.ListN.{length, replicate}
 use lib.Dec.{eqb, ltb}
 use Rattle.octets.specs.Octets.{blank}
-use Rattle.checkpoint.specs.Checkpoint.{Checkpoint, sealed, own-tag}
+use Rattle.checkpoint.specs.Checkpoint.{Form, Older, Longer, Checkpoint, sealed, own-tag}
 use Rattle.protocol.specs.Types.{Origin, Save, PowerUp}
-use Rattle.protocol.specs.Calls.{Saves, Setup, Event, first-saved, saved, powered-up, advanced-by, PowerLoss, lost-in-store}
+use Rattle.protocol.specs.Calls.{SaveArguments, FirstSave, Setup, Event, first-saved, saved, powered-up, advanced-by, PowerLoss, Updated, lost-in-store}
 
 -- a store to come
 pub data Store : Type 0 where
@@ -31,21 +31,55 @@ pub record Journal : Type 0 where
   pub count : ℕ
   pub owed : Bool
   pub draft : Option Draft
-  -- power-ups recorded since the last recorded first save or save
+  -- power-ups recorded since the last record that set restarts to 0
   pub power-ups : ℕ
 
--- ---- the checkpoints of drafts, from document 01's words and not from the operations
+-- ---- the checkpoints of drafts, from the papers' words and not from the operations; `form` is that of the heads which the call writes
 
-unfoldable pub first-draft : List ℕ → List ℕ → List ℕ → List ℕ → Checkpoint
-first-draft nonce starting-tag open-part secret = record { open-part = open-part; secret = secret; restarts = 0; previous = starting-tag; nonce = nonce }
+-- in the older form the packet number is 0
+unfoldable pub number-in : Form → ℕ → ℕ
+number-in Older packet = 0
+number-in Longer packet = packet
 
--- a save's, with the entry c
-unfoldable pub save-draft : List ℕ → List ℕ → List ℕ → List ℕ → Checkpoint → Checkpoint
-save-draft key nonce open-part secret c = record { open-part = open-part; secret = secret; restarts = 0; previous = own-tag key c; nonce = nonce }
+unfoldable pub first-draft : Form → FirstSave → Checkpoint
+first-draft form a = record {
+  form = form;
+  packet = number-in form (a .arguments .packet);
+  open-part = a .arguments .open-part;
+  secret = a .arguments .secret;
+  restarts = 0;
+  previous = a .starting-tag;
+  nonce = a .arguments .nonce;
+}
 
--- a power-up's, with the entry c
-unfoldable pub power-up-draft : List ℕ → List ℕ → Checkpoint → Checkpoint
-power-up-draft key nonce c = record { open-part = c .open-part; secret = c .secret; restarts = c .restarts + 1; previous = own-tag key c; nonce = nonce }
+-- a save sets restarts to 0 if it brings a packet number above the entry's; every save of the older form does
+unfoldable pub starts-over : Form → ℕ → Checkpoint → Bool
+starts-over Older packet c = true
+starts-over Longer packet c = ltb (c .packet) packet
+
+-- a save's, with the entry c: the larger packet number is stored
+unfoldable pub save-draft : Form → List ℕ → SaveArguments → Checkpoint → Checkpoint
+save-draft form key a c = record {
+  form = form;
+  packet = number-in form (cond (ltb (c .packet) (a .packet)) (a .packet) (c .packet));
+  open-part = a .open-part;
+  secret = a .secret;
+  restarts = cond (starts-over form (a .packet) c) 0 (c .restarts);
+  previous = own-tag key c;
+  nonce = a .nonce;
+}
+
+-- a power-up's, with the entry c: it keeps the packet number
+unfoldable pub power-up-draft : Form → List ℕ → List ℕ → Checkpoint → Checkpoint
+power-up-draft form key nonce c = record {
+  form = form;
+  packet = c .packet;
+  open-part = c .open-part;
+  secret = c .secret;
+  restarts = c .restarts + 1;
+  previous = own-tag key c;
+  nonce = nonce;
+}
 
 -- ---- the journal
 
@@ -61,7 +95,7 @@ unfoldable pub stores-of : List ℕ → ℕ → Journal → Checkpoint → List 
 stores-of key slots j c =
     erase-if (j .owed) ++ replicate (length (sealed key c) / 4) word ++ record-slot ∷ erase-if (ltb 0 (j .count) && eqb (j .count % slots) 0)
 
--- `power-ups` is what the draft makes the journal's once it is recorded: 0 for a save, one more for a power-up
+-- `power-ups` is what the draft makes the journal's once it is recorded
 unfoldable pub drafted : List ℕ → ℕ → Origin → Checkpoint → ℕ → Journal → Journal
 drafted key slots origin c power-ups j = record {
   entry = j .entry;
@@ -120,22 +154,24 @@ lost-into j (some d) left = dropped (cond (whole (d .stores) left) (made j d (d 
 
 -- ---- what the journal sees of an event
 
-unfoldable pub resumed-entry : List ℕ → List ℕ → Option Checkpoint → Journal → ℕ → Journal
-resumed-entry key nonce none j slots = j
-resumed-entry key nonce (some c) j slots = drafted key slots PowerUp (power-up-draft key nonce c) (j .power-ups + 1) j
+-- a power-up is one more
+unfoldable pub resumed-entry : Form → List ℕ → List ℕ → Option Checkpoint → Journal → ℕ → Journal
+resumed-entry form key nonce none j slots = j
+resumed-entry form key nonce (some c) j slots = drafted key slots PowerUp (power-up-draft form key nonce c) (j .power-ups + 1) j
 
--- a save's draft carries the entry's tag, whatever session it was given
-unfoldable pub saved-entry : List ℕ → Saves → Option Checkpoint → Journal → ℕ → Journal
-saved-entry key a none j slots = j
-saved-entry key a (some c) j slots = drafted key slots Save (save-draft key (a .arguments .nonce) (a .arguments .open-part) (a .arguments .secret) c) 0 j
+-- a save's draft carries the entry's tag, restarts and packet number, whatever session it was given; its power-ups are 0 or carry over, as its restarts
+unfoldable pub saved-entry : Form → List ℕ → SaveArguments → Option Checkpoint → Journal → ℕ → Journal
+saved-entry form key a none j slots = j
+saved-entry form key a (some c) j slots =
+    drafted key slots Save (save-draft form key a c) (cond (starts-over form (a .packet) c) 0 (j .power-ups)) j
 
--- the journal after an event: it sees the call's arguments and whether the call stopped, and what a power loss left; never the memories
-unfoldable pub entered : Setup → Journal → Event → Bool → Journal
-entered u j (first-saved a) stopped =
-    let c = first-draft (a .arguments .nonce) (a .starting-tag) (a .arguments .open-part) (a .arguments .secret) in
-    cond stopped j (drafted (u .key) (u .sizes .slots) Save c 0 j)
-entered u j (saved a) stopped = cond stopped j (saved-entry (u .key) a (j .entry) j (u .sizes .slots))
-entered u j (powered-up a) stopped = cond stopped j (resumed-entry (u .key) (a .nonce) (j .entry) j (u .sizes .slots))
-entered u j (advanced-by a) stopped = cond stopped j (advanced j (j .draft))
-entered u j PowerLoss stopped = dropped j
-entered u j (lost-in-store left) stopped = lost-into j (j .draft) left
+-- the journal after an event: it sees the call's arguments, the form of the heads which it writes and whether it stopped, and what a power loss left;
+-- never the memories
+unfoldable pub entered : Setup → Form → Journal → Event → Bool → Journal
+entered u form j (first-saved a) stopped = cond stopped j (drafted (u .key) (u .sizes .slots) Save (first-draft form a) 0 j)
+entered u form j (saved a) stopped = cond stopped j (saved-entry form (u .key) (a .arguments) (j .entry) j (u .sizes .slots))
+entered u form j (powered-up a) stopped = cond stopped j (resumed-entry form (u .key) (a .nonce) (j .entry) j (u .sizes .slots))
+entered u form j (advanced-by a) stopped = cond stopped j (advanced j (j .draft))
+entered u form j PowerLoss stopped = dropped j
+entered u form j Updated stopped = dropped j
+entered u form j (lost-in-store left) stopped = lost-into j (j .draft) left

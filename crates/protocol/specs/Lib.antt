@@ -6,3 +6,4 @@ pub mod Journal
 pub mod History
 pub mod Recovery
 pub mod Histories
+pub mod Older

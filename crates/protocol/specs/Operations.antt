@@ -1,19 +1,21 @@
--- What each operation answers and leaves in the lent buffers (document 01, "What the unit calls" and "Stops, by the place of checking").
--- A stop is the number of the first condition that holds, in a list with a line for each row of document 01's table that names the operation.
+-- What each operation answers and leaves in the lent buffers (document 01, "What the unit calls" and "Stops, by the place of checking", and document 02, A.2).
+-- A stop is the number of the first condition that holds, in a list with a line for each row of the papers that names the operation: rising, but
+-- 18 comes right after 4, and a power-up's second 4 after 13 (A.2).
+-- `form` is that of the heads which the unit's firmware writes: at Older these are document 01's operations, and the code's promises are at Longer.
 use Prim.Native.Nat.{ℕ, _+_, _-_, _*_, _%_}
-use mathlib.Core.Bool.{Bool, true, not, cond, _&&_, _||_}
+use mathlib.Core.Bool.{Bool, true, false, not, cond, _&&_, _||_}
 use mathlib.Core.Option.{Option, none, some}
 use mathlib.Core.List.{List, [], _∷_}
 use lib.ListN.{length, take, replicate}
 use lib.Dec.{eqb, leb, ltb}
-use Rattle.octets.specs.Limits.{slot-length, part-limit, restart-limit, nonce-length, tag-length}
+use Rattle.octets.specs.Limits.{slot-length, part-limit, restart-limit, packet-limit, nonce-length, tag-length}
 use Rattle.octets.specs.Octets.{part, put, blank}
 use Rattle.stops.specs.Stops.{first-of}
 pub use Rattle.gcm.specs.Calls.{key-wrong, nonce-wrong, tag-wrong}
 use Rattle.ring.specs.Ring.{Newest, Blank, Unreadable, At, AtPending, ring-wrong, slot-at, page-at, record-of, half-named, page-before, read-ring, is-blank, is-unreadable, is-pending, newest-record, not-newest, nonce-used, target-page, target-slot, page-erased, record-put}
 use Rattle.checkpoint.specs.Fram.{fram-wrong, half-length, half-at}
-use Rattle.checkpoint.specs.Checkpoint.{Checkpoint, head-length, empty-length, sealed-length, part-wrong, own-tag, sealed}
-use Rattle.checkpoint.specs.Half.{open-length, stored-restarts, good-head, good-tag, stored}
+use Rattle.checkpoint.specs.Checkpoint.{Form, Older, Longer, Checkpoint, head-length, empty-length, sealed-length, part-wrong, own-tag, sealed}
+use Rattle.checkpoint.specs.Half.{read-as, open-length, secret-length, stored-restarts, good-head, good-tag, stored}
 use Rattle.protocol.specs.Types.{Phase, EraseFirst, Words, Record, EraseAfter, Done, Origin, Save, PowerUp, Job, Session, Progress, GoingOn, Saved, Restored, Refused, Start, Begun, Stopped, Looked, Restarts, Unseen, Stretch}
 use Rattle.protocol.specs.Calls.{Sizes, FirstSave, Saves, PowersUp, Looks, Advances}
 
@@ -21,7 +23,7 @@ use Rattle.protocol.specs.Calls.{Sizes, FirstSave, Saves, PowersUp, Look
 abbrev pub newest-in : List ℕ → Sizes → Newest
 newest-in ring z = read-ring ring (z .pages) (z .slots)
 
--- ---- conditions of document 01's table
+-- ---- conditions of the papers' tables
 
 -- stop 4, of a staging buffer and of a state buffer
 unfoldable pub staging-wrong : List ℕ → List ℕ → Bool
@@ -31,13 +33,28 @@ unfoldable pub state-wrong : List ℕ → Bool
 state-wrong state = ltb (length state) part-limit
 
 -- stop 4, of both parts
-unfoldable pub parts-wrong : List ℕ → List ℕ → List ℕ → Bool
-parts-wrong open-part secret fram =
-    part-wrong open-part || part-wrong secret || ltb (half-length fram) (sealed-length (length open-part) (length secret))
+unfoldable pub parts-wrong : Form → List ℕ → List ℕ → List ℕ → Bool
+parts-wrong form open-part secret fram =
+    part-wrong open-part || part-wrong secret || ltb (half-length fram) (sealed-length form (length open-part) (length secret))
 
--- stop 8
+-- stop 4, of a half whose checkpoint, sealed anew in a form, outgrows it; only one of the older form sealed anew in the longer one does
+unfoldable pub outgrows : Form → List ℕ → Bool
+outgrows form half =
+    let read = read-as form half in
+    ltb (length half) (sealed-length form (open-length read half) (secret-length read half))
+
+-- stop 18
+unfoldable pub packet-wrong : Form → ℕ → Bool
+packet-wrong Older packet = false
+packet-wrong Longer packet = ltb packet-limit packet
+
+-- stop 8, of the record, and of the restarts and the packet number
 unfoldable pub stale : List ℕ → ℕ → Newest → Session → Bool
 stale ring slots n s = not-newest ring slots n (s .page) (s .slot) (s .latest)
+
+unfoldable pub session-wrong : Form → Session → Bool
+session-wrong Older s = false
+session-wrong Longer s = ltb restart-limit (s .restarts) || ltb packet-limit (s .packet)
 
 -- ---- starts
 
@@ -51,7 +68,18 @@ pub record Begin : Type 0 where
 
 -- the job beside a stop of a start, which document 01 leaves free, as it does the length 0; an advance of it always stops (proofs/FreeResults.antt)
 unfoldable pub no-job : Job
-no-job = record { phase = Done; origin = Save; half = 0; length = 0; page = 0; slot = 0; nonce = replicate nonce-length 0; tag = replicate tag-length 0 }
+no-job = record {
+  phase = Done;
+  origin = Save;
+  half = 0;
+  length = 0;
+  page = 0;
+  slot = 0;
+  nonce = replicate nonce-length 0;
+  tag = replicate tag-length 0;
+  restarts = 0;
+  packet = 0;
+}
 
 unfoldable pub job-of : List ℕ → Checkpoint → Phase → Origin → ℕ → ℕ → ℕ → Job
 job-of key c phase origin half page slot = record {
@@ -63,6 +91,8 @@ job-of key c phase origin half page slot = record {
   slot = slot;
   nonce = c .nonce;
   tag = own-tag key c;
+  restarts = c .restarts;
+  packet = c .packet;
 }
 
 -- a stop leaves every buffer as it was; else the sealed checkpoint stands at the front of staging
@@ -78,16 +108,53 @@ begin none key c job staging state secret = record {
 
 -- ---- the checkpoints they make
 
-unfoldable pub first-checkpoint : FirstSave → Checkpoint
-first-checkpoint a = record { open-part = a .arguments .open-part; secret = a .arguments .secret; restarts = 0; previous = a .starting-tag; nonce = a .arguments .nonce }
+-- the packet number that is written: the older form has none
+unfoldable pub written-number : Form → ℕ → ℕ
+written-number Older packet = 0
+written-number Longer packet = packet
 
--- a save's, with `previous` for the tag that it is linked to
-unfoldable pub save-checkpoint : Saves → List ℕ → Checkpoint
-save-checkpoint a previous = record { open-part = a .arguments .open-part; secret = a .arguments .secret; restarts = 0; previous = previous; nonce = a .arguments .nonce }
+unfoldable pub first-checkpoint : Form → FirstSave → Checkpoint
+first-checkpoint form a = record {
+  form = form;
+  packet = written-number form (a .arguments .packet);
+  open-part = a .arguments .open-part;
+  secret = a .arguments .secret;
+  restarts = 0;
+  previous = a .starting-tag;
+  nonce = a .arguments .nonce;
+}
 
--- the same parts, one restart more, linked to it by its tag
-unfoldable pub resumed : List ℕ → List ℕ → Checkpoint → Checkpoint
-resumed key nonce c = record { open-part = c .open-part; secret = c .secret; restarts = c .restarts + 1; previous = own-tag key c; nonce = nonce }
+-- a save that has heard a packet number above the session's sets restarts to 0, else the session's carry over; every save of the older form sets them to 0
+unfoldable pub save-restarts : Form → (heard known restarts : ℕ) → ℕ
+save-restarts Older heard known restarts = 0
+save-restarts Longer heard known restarts = cond (ltb known heard) 0 restarts
+
+unfoldable pub larger : ℕ → ℕ → ℕ
+larger a b = cond (ltb a b) b a
+
+-- a save's: the larger packet number
+unfoldable pub save-checkpoint : Form → Saves → Checkpoint
+save-checkpoint form a = record {
+  form = form;
+  packet = written-number form (larger (a .session .packet) (a .arguments .packet));
+  open-part = a .arguments .open-part;
+  secret = a .arguments .secret;
+  restarts = save-restarts form (a .arguments .packet) (a .session .packet) (a .session .restarts);
+  previous = a .session .tag;
+  nonce = a .arguments .nonce;
+}
+
+-- c's parts and packet number (an older head is read with 0), one restart more, and c's own tag as the previous one
+unfoldable pub resumed : Form → List ℕ → List ℕ → Checkpoint → Checkpoint
+resumed form key nonce c = record {
+  form = form;
+  packet = c .packet;
+  open-part = c .open-part;
+  secret = c .secret;
+  restarts = c .restarts + 1;
+  previous = own-tag key c;
+  nonce = nonce;
+}
 
 unfoldable pub first-phase : Newest → Phase
 first-phase Blank = Words 0
@@ -95,18 +162,24 @@ first-phase Unreadable = Words 0
 first-phase (At p s) = Words 0
 first-phase (AtPending p q) = EraseFirst q
 
-module _ (ring fram : List ℕ) where
+-- the half that the newest record names
+unfoldable pub newest-half : (ring fram : List ℕ) → ℕ → Newest → List ℕ
+newest-half ring fram slots n = half-at fram (half-named (newest-record ring slots n))
+
+module _ (form : Form) (ring fram : List ℕ) where
   unfoldable pub first-save-stop : FirstSave → Option ℕ
   first-save-stop a = first-of (
       (1, ring-wrong (a .arguments .sizes .pages) (a .arguments .sizes .slots) ring) ∷
       (2, fram-wrong fram) ∷
       (3, key-wrong (length (a .arguments .key)) || nonce-wrong (length (a .arguments .nonce)) || tag-wrong (length (a .starting-tag))) ∷
-      (4, parts-wrong (a .arguments .open-part) (a .arguments .secret) fram || staging-wrong (a .arguments .staging) fram) ∷
+      (4, parts-wrong form (a .arguments .open-part) (a .arguments .secret) fram || staging-wrong (a .arguments .staging) fram) ∷
+      (18, packet-wrong form (a .arguments .packet)) ∷
       (5, not (blank ring)) ∷ [])
 
   unfoldable pub first-save : FirstSave → Begin
   first-save a =
-      begin (first-save-stop a) (a .arguments .key) (first-checkpoint a) (job-of (a .arguments .key) (first-checkpoint a) (Words 0) Save 0 0 0) (a .arguments .staging) [] []
+      let c = first-checkpoint form a in
+      begin (first-save-stop a) (a .arguments .key) c (job-of (a .arguments .key) c (Words 0) Save 0 0 0) (a .arguments .staging) [] []
 
   unfoldable pub save-stop : Saves → Option ℕ
   save-stop a =
@@ -115,28 +188,27 @@ module _ (ring fram : List ℕ) where
       (1, ring-wrong (a .arguments .sizes .pages) (a .arguments .sizes .slots) ring) ∷
       (2, fram-wrong fram) ∷
       (3, key-wrong (length (a .arguments .key)) || nonce-wrong (length (a .arguments .nonce))) ∷
-      (4, parts-wrong (a .arguments .open-part) (a .arguments .secret) fram || staging-wrong (a .arguments .staging) fram) ∷
+      (4, parts-wrong form (a .arguments .open-part) (a .arguments .secret) fram || staging-wrong (a .arguments .staging) fram) ∷
+      (18, packet-wrong form (a .arguments .packet)) ∷
       (6, is-blank n) ∷
       (7, is-unreadable n) ∷
-      (8, stale ring (a .arguments .sizes .slots) n (a .session)) ∷
+      (8, stale ring (a .arguments .sizes .slots) n (a .session) || session-wrong form (a .session)) ∷
       (9, is-pending n) ∷
       (10, nonce-used ring (a .arguments .sizes .slots) n (a .arguments .nonce)) ∷ [])
 
   unfoldable pub save : Saves → Begin
   save a =
       let n = newest-in ring (a .arguments .sizes) in
-      begin (save-stop a) (a .arguments .key) (save-checkpoint a (a .session .tag))
-      (job-of (a .arguments .key) (save-checkpoint a (a .session .tag)) (Words 0) Save (1 - half-named (newest-record ring (a .arguments .sizes .slots) n))
+      let c = save-checkpoint form a in
+      begin (save-stop a) (a .arguments .key) c
+      (job-of (a .arguments .key) c (Words 0) Save (1 - half-named (newest-record ring (a .arguments .sizes .slots) n))
       (target-page (a .arguments .sizes .pages) (a .arguments .sizes .slots) n) (target-slot (a .arguments .sizes .slots) n))
       (a .arguments .staging) [] []
-
-  unfoldable pub newest-half : ℕ → Newest → List ℕ
-  newest-half slots n = half-at fram (half-named (newest-record ring slots n))
 
   unfoldable pub power-up-stop : PowersUp → Option ℕ
   power-up-stop a =
       let n = newest-in ring (a .sizes) in
-      let half = newest-half (a .sizes .slots) n in
+      let half = newest-half ring fram (a .sizes .slots) n in
       first-of (
       (1, ring-wrong (a .sizes .pages) (a .sizes .slots) ring) ∷
       (2, fram-wrong fram) ∷
@@ -145,21 +217,23 @@ module _ (ring fram : List ℕ) where
       (6, is-blank n) ∷
       (7, is-unreadable n) ∷
       (10, nonce-used ring (a .sizes .slots) n (a .nonce)) ∷
-      (11, not (good-head half)) ∷
-      (12, not (good-tag (a .key) (take nonce-length (newest-record ring (a .sizes .slots) n)) half)) ∷
-      (13, eqb (stored-restarts half) restart-limit) ∷ [])
+      (11, not (good-head (read-as form half) half)) ∷
+      (12, not (good-tag (read-as form half) (a .key) (take nonce-length (newest-record ring (a .sizes .slots) n)) half)) ∷
+      (13, eqb (stored-restarts (read-as form half) half) restart-limit) ∷
+      (4, outgrows form half) ∷ [])
 
   -- the checkpoint that the newest record names
   unfoldable pub newest-checkpoint : PowersUp → Checkpoint
   newest-checkpoint a =
       let n = newest-in ring (a .sizes) in
-      stored (a .key) (take nonce-length (newest-record ring (a .sizes .slots) n)) (newest-half (a .sizes .slots) n)
+      let half = newest-half ring fram (a .sizes .slots) n in
+      stored (read-as form half) (a .key) (take nonce-length (newest-record ring (a .sizes .slots) n)) half
 
   unfoldable pub power-up : PowersUp → Begin
   power-up a =
       let n = newest-in ring (a .sizes) in
       let old = newest-checkpoint a in
-      let new = resumed (a .key) (a .nonce) old in
+      let new = resumed form (a .key) (a .nonce) old in
       begin (power-up-stop a) (a .key) new
       (job-of (a .key) new (first-phase n) PowerUp (1 - half-named (newest-record ring (a .sizes .slots) n))
       (target-page (a .sizes .pages) (a .sizes .slots) n) (target-slot (a .sizes .slots) n))
@@ -170,36 +244,37 @@ module _ (ring fram : List ℕ) where
   unfoldable pub look-stop : Looks → Option ℕ
   look-stop a =
       let n = newest-in ring (a .sizes) in
-      let half = newest-half (a .sizes .slots) n in
+      let half = newest-half ring fram (a .sizes .slots) n in
       first-of (
       (1, ring-wrong (a .sizes .pages) (a .sizes .slots) ring) ∷
       (2, fram-wrong fram) ∷
       (3, key-wrong (length (a .key))) ∷
       (6, is-blank n) ∷
       (7, is-unreadable n) ∷
-      (11, not (good-head half)) ∷
-      (12, not (good-tag (a .key) (take nonce-length (newest-record ring (a .sizes .slots) n)) half)) ∷ [])
+      (11, not (good-head (read-as form half) half)) ∷
+      (12, not (good-tag (read-as form half) (a .key) (take nonce-length (newest-record ring (a .sizes .slots) n)) half)) ∷ [])
 
 -- look stores nothing
 unfoldable pub look-by : Option ℕ → ℕ → Looked
 look-by (some s) restarts = Unseen s
 look-by none restarts = Restarts restarts
 
-unfoldable pub look : List ℕ → List ℕ → Looks → Looked
-look ring fram a =
-    let n = newest-in ring (a .sizes) in
-    look-by (look-stop ring fram a) (stored-restarts (newest-half ring fram (a .sizes .slots) n))
+unfoldable pub look : Form → List ℕ → List ℕ → Looks → Looked
+look form ring fram a =
+    let half = newest-half ring fram (a .sizes .slots) (newest-in ring (a .sizes)) in
+    look-by (look-stop form ring fram a) (stored-restarts (read-as form half) half)
 
 -- the open part as a stretch of the FRAM image; an empty one, which document 01 leaves open, stands at 0
 unfoldable pub stretch-by : Option ℕ → ℕ → ℕ → Stretch
 stretch-by (some s) offset length = record { offset = 0; length = 0 }
 stretch-by none offset length = record { offset = offset; length = length }
 
-unfoldable pub open-stretch : List ℕ → List ℕ → Looks → Stretch
-open-stretch ring fram a =
+unfoldable pub open-stretch : Form → List ℕ → List ℕ → Looks → Stretch
+open-stretch form ring fram a =
     let n = newest-in ring (a .sizes) in
-    stretch-by (look-stop ring fram a) (half-named (newest-record ring (a .sizes .slots) n) * half-length fram + head-length)
-    (open-length (newest-half ring fram (a .sizes .slots) n))
+    let half = newest-half ring fram (a .sizes .slots) n in
+    stretch-by (look-stop form ring fram a) (half-named (newest-record ring (a .sizes .slots) n) * half-length fram + head-length (read-as form half))
+    (open-length (read-as form half) half)
 
 unfoldable pub stretch-of : List ℕ → Stretch → List ℕ
 stretch-of fram z = part fram (z .offset) (z .length)
@@ -216,11 +291,11 @@ unfoldable pub job-record : Job → List ℕ
 job-record j = record-of (j .nonce) (j .half)
 
 unfoldable pub session-of : Job → Session
-session-of j = record { page = j .page; slot = j .slot; latest = job-record j; tag = j .tag }
+session-of j = record { page = j .page; slot = j .slot; latest = job-record j; tag = j .tag; restarts = j .restarts; packet = j .packet }
 
 -- the session beside 'going on' or a refusal, which document 01 leaves free; a save with it always stops (proofs/FreeResults.antt)
 unfoldable pub no-session : Session
-no-session = record { page = 0; slot = 0; latest = replicate slot-length 0; tag = replicate tag-length 0 }
+no-session = record { page = 0; slot = 0; latest = replicate slot-length 0; tag = replicate tag-length 0; restarts = 0; packet = 0 }
 
 unfoldable pub in-phase : Job → Phase → Job
 in-phase j phase = record {
@@ -232,6 +307,8 @@ in-phase j phase = record {
   slot = j .slot;
   nonce = j .nonce;
   tag = j .tag;
+  restarts = j .restarts;
+  packet = j .packet;
 }
 
 unfoldable pub phase-wrong : Phase → Job → Sizes → List ℕ → Bool
@@ -241,17 +318,17 @@ phase-wrong Record j z ring = not (blank (slot-at ring (z .slots) (j .page) (j .
 phase-wrong (EraseAfter p) j z ring = leb (z .pages) p
 phase-wrong Done j z ring = true
 
-unfoldable pub job-wrong : Job → Sizes → List ℕ → List ℕ → Bool
-job-wrong j z ring fram =
-    not (eqb (j .length % 4) 0) || ltb (j .length) empty-length || ltb (half-length fram) (j .length) ||
+unfoldable pub job-wrong : Form → Job → Sizes → List ℕ → List ℕ → Bool
+job-wrong form j z ring fram =
+    not (eqb (j .length % 4) 0) || ltb (j .length) (empty-length form) || ltb (half-length fram) (j .length) ||
     leb (z .pages) (j .page) || leb (z .slots) (j .slot) || ltb 1 (j .half) || phase-wrong (j .phase) j z ring
 
-unfoldable pub advance-stop : List ℕ → List ℕ → Advances → Option ℕ
-advance-stop ring fram a = first-of (
+unfoldable pub advance-stop : Form → List ℕ → List ℕ → Advances → Option ℕ
+advance-stop form ring fram a = first-of (
     (1, ring-wrong (a .sizes .pages) (a .sizes .slots) ring) ∷
     (2, fram-wrong fram) ∷
     (4, staging-wrong (a .staging) fram) ∷
-    (14, job-wrong (a .job) (a .sizes) ring fram) ∷ [])
+    (14, job-wrong form (a .job) (a .sizes) ring fram) ∷ [])
 
 -- what an advance answers, and the memories it leaves
 pub record Moved : Type 0 where
@@ -298,5 +375,5 @@ unfoldable pub advance-by : Option ℕ → List ℕ → List ℕ → Advances �
 advance-by (some s) ring fram a = record { progress = Refused s; job = a .job; session = no-session; ring = ring; fram = fram }
 advance-by none ring fram a = store (a .job .phase) ring fram a
 
-unfoldable pub advance : List ℕ → List ℕ → Advances → Moved
-advance ring fram a = advance-by (advance-stop ring fram a) ring fram a
+unfoldable pub advance : Form → List ℕ → List ℕ → Advances → Moved
+advance form ring fram a = advance-by (advance-stop form ring fram a) ring fram a

@@ -1,6 +1,6 @@
--- The theorem Recovery (demand 3; document 01 calls it the cut rule): what every call of a list of calls and power losses answers and leaves,
+-- The theorem Recovery (demand 3; documents 01 and 02 call it the cut rule): what every call of a list of calls and power losses answers and leaves,
 -- and what a power-up after the list finds.
-use Prim.Native.Nat.{ℕ, zero, suc, _-_, _≤_}
+use Prim.Native.Nat.{ℕ, zero, suc, _-_, _≤_, _<_}
 use mathlib.Core.Path.{_≡_}
 use mathlib.Core.Bool.{Bool, true, false, not, cond}
 use mathlib.Core.Option.{Option, none, some}
@@ -12,9 +12,9 @@ use Rattle.octets.specs.Limits.{part-limit, restart-limit, key-length, nonce-le
 use Rattle.octets.specs.Octets.{put, blank}
 use Rattle.ring.specs.Ring.{At, ring-wrong, slot-at, half-named, read-ring}
 use Rattle.checkpoint.specs.Fram.{fram-wrong, half-length, half-at}
-use Rattle.checkpoint.specs.Checkpoint.{Checkpoint, own-tag, sealed}
+use Rattle.checkpoint.specs.Checkpoint.{Form, Checkpoint, own-tag, sealed}
 use Rattle.protocol.specs.Types.{Restarts, Unseen, Session, Origin, Save, PowerUp, Progress, GoingOn, Restored, Saved, Refused, Start, Begun, Stopped}
-use Rattle.protocol.specs.Calls.{PowersUp, Looks, Advances, Setup, Event, first-saved, saved, powered-up, advanced-by, PowerLoss, lost-in-store}
+use Rattle.protocol.specs.Calls.{PowersUp, Looks, Advances, Setup, Event, first-saved, saved, powered-up, advanced-by, PowerLoss, Updated, lost-in-store}
 use Rattle.protocol.specs.Operations.{Begin, Moved, no-job, first-save-stop, first-save, save-stop, save, power-up-stop, power-up, look, open-stretch, stretch-of, advance-stop, advance, no-session, session-of}
 use Rattle.protocol.specs.Journal.{Draft, to-come, power-up-draft, stores-of}
 use Rattle.protocol.specs.History.{State, Handed, broken-ring, broken-fram, bytes-of, fresh, run, step, is-stop, is-stopped, refused, Keeps, Allowed}
@@ -27,9 +27,9 @@ start-answer (some x) = Stopped x
 
 -- an advance leaves its phase's store whole, and all else as it was: what a power loss in it would leave, with the whole store in its place
 pub record OneStore (s : State) (a : Advances) : Type 0 where
-  pub ring : advance (s .ring) (s .fram) a .ring
+  pub ring : advance (s .form) (s .ring) (s .fram) a .ring
       ≡ broken-ring (a .job .phase) (s .ring) (a .sizes .slots) (a .job) (bytes-of (a .job .phase) (a .job) (a .sizes .slots) (a .staging))
-  pub fram : advance (s .ring) (s .fram) a .fram
+  pub fram : advance (s .form) (s .ring) (s .fram) a .fram
       ≡ broken-fram (a .job .phase) (s .fram) (a .job) (bytes-of (a .job .phase) (a .job) (a .sizes .slots) (a .staging))
 
 unfoldable pub is-going : Progress → Bool
@@ -38,33 +38,35 @@ is-going Saved = false
 is-going Restored = false
 is-going (Refused stop) = false
 
--- a start answers `stop`, if that is one, with no job, and then leaves staging and state as they were
+-- a start answers `stop`, if it is a number, with no job, and then leaves staging and state as they were
 abbrev pub Started : Option ℕ → Begin → List ℕ → List ℕ → Type 0
 Started stop b staging state =
     (b .answer ≡ start-answer stop)
     × (T (is-stop (b .answer)) → (b .job ≡ no-job) × (b .secret-length ≡ 0) × (b .staging ≡ staging) × (b .state ≡ state))
 
--- an advance answers `stop`, if that is one, with its job and no session, and then leaves the memories as they were;
+-- an advance answers `stop`, if it is a number, with its job and no session, and then leaves the memories as they were;
 -- else it does not stop, hands out the job's session where it is not going on, and makes one store
 abbrev pub Advanced : State → Advances → Option ℕ → Moved → Type 0
 Advanced s a stop m =
     ((x : ℕ) → stop ≡ some x → (m .progress ≡ Refused x) × (m .ring ≡ s .ring) × (m .fram ≡ s .fram) × (m .job ≡ a .job) × (m .session ≡ no-session))
     × (stop ≡ none → (is-stopped (m .progress) ≡ false) × (m .session ≡ cond (is-going (m .progress)) no-session (session-of (a .job))) × OneStore s a)
 
--- the call answers the first stop of document 01's table that applies, and what a stop leaves is as it was
+-- the call answers the first stop of its list that applies, and what a stop leaves is as it was
 unfoldable pub Exact : State → Event → Type 0
-Exact s (first-saved a) = Started (first-save-stop (s .ring) (s .fram) a) (first-save (s .ring) (s .fram) a) (a .arguments .staging) []
-Exact s (saved a) = Started (save-stop (s .ring) (s .fram) a) (save (s .ring) (s .fram) a) (a .arguments .staging) []
-Exact s (powered-up a) = Started (power-up-stop (s .ring) (s .fram) a) (power-up (s .ring) (s .fram) a) (a .staging) (a .state)
-Exact s (advanced-by a) = Advanced s a (advance-stop (s .ring) (s .fram) a) (advance (s .ring) (s .fram) a)
+Exact s (first-saved a) = Started (first-save-stop (s .form) (s .ring) (s .fram) a) (first-save (s .form) (s .ring) (s .fram) a) (a .arguments .staging) []
+Exact s (saved a) = Started (save-stop (s .form) (s .ring) (s .fram) a) (save (s .form) (s .ring) (s .fram) a) (a .arguments .staging) []
+Exact s (powered-up a) = Started (power-up-stop (s .form) (s .ring) (s .fram) a) (power-up (s .form) (s .ring) (s .fram) a) (a .staging) (a .state)
+Exact s (advanced-by a) = Advanced s a (advance-stop (s .form) (s .ring) (s .fram) a) (advance (s .form) (s .ring) (s .fram) a)
 Exact s PowerLoss = Unit {0}
+Exact s Updated = Unit {0}
 Exact s (lost-in-store left) = Unit {0}
 
--- what the draft that an advance leaves makes it say: 'going on' while a store is to come, then 'saved' or 'restored'
+-- what the last advance of a job says
 unfoldable pub ending : Origin → Progress
 ending Save = Saved
 ending PowerUp = Restored
 
+-- what the draft that an advance leaves makes it say: 'going on' while a store is to come, then 'saved' or 'restored'
 unfoldable pub said : Option Draft → Progress
 said none = GoingOn
 said (some d) = cond (to-come (d .stores)) GoingOn (ending (d .origin))
@@ -77,7 +79,7 @@ store-left (some d) = to-come (d .stores)
 abbrev pub Told : Setup → State → Advances → Type 0
 Told u s a =
     (refused s (advanced-by a) ≡ not (store-left (s .journal .draft)))
-    × (store-left (s .journal .draft) ≡ true → advance (s .ring) (s .fram) a .progress ≡ said (step u s (advanced-by a) .journal .draft))
+    × (store-left (s .journal .draft) ≡ true → advance (s .form) (s .ring) (s .fram) a .progress ≡ said (step u s (advanced-by a) .journal .draft))
 
 unfoldable pub Follows : Setup → State → Event → Type 0
 Follows u s (first-saved a) = Unit {0}
@@ -85,6 +87,7 @@ Follows u s (saved a) = Unit {0}
 Follows u s (powered-up a) = Unit {0}
 Follows u s (advanced-by a) = Keeps u s (advanced-by a) → Told u s a
 Follows u s PowerLoss = Unit {0}
+Follows u s Updated = Unit {0}
 Follows u s (lost-in-store left) = Unit {0}
 
 unfoldable pub Exactly : Setup → State → List Event → Type 0
@@ -99,7 +102,7 @@ pub record Fits (u : Setup) (ring fram : List ℕ) : Type 0 where
   pub fram-right : fram-wrong fram ≡ false
   pub key-right : length (u .key) ≡ key-length
 
--- the last power-up: the unit's sizes and key, a nonce that no start had, and buffers that pass 1 to 4
+-- the last power-up: the unit's sizes and key, a nonce that no start which began had, and buffers that pass 1 to 4
 pub record Last (u : Setup) (s : State) (a : PowersUp) : Type 0 where
   pub sizes : a .sizes ≡ u .sizes
   pub key : a .key ≡ u .key
@@ -114,6 +117,7 @@ is-advance (saved a) = false
 is-advance (powered-up a) = false
 is-advance (advanced-by a) = true
 is-advance PowerLoss = false
+is-advance Updated = false
 is-advance (lost-in-store left) = false
 
 -- from state s the events are refused calls and advances of the job handed out last, and no power loss
@@ -126,8 +130,9 @@ unfoldable pub answered : State → Event → List Progress → List Progress
 answered s (first-saved a) later = later
 answered s (saved a) later = later
 answered s (powered-up a) later = later
-answered s (advanced-by a) later = advance (s .ring) (s .fram) a .progress ∷ later
+answered s (advanced-by a) later = advance (s .form) (s .ring) (s .fram) a .progress ∷ later
 answered s PowerLoss later = later
+answered s Updated later = later
 answered s (lost-in-store left) later = later
 
 -- what the advances among the events answer, without those that are refused
@@ -156,31 +161,39 @@ pub record Stands (u : Setup) (t : State) (new : Checkpoint) : Type 0 where
   pub there : take (length (sealed (u .key) new)) (half-at (t .fram) (half-named (slot-at (t .ring) (u .sizes .slots) page slot))) ≡ sealed (u .key) new
   pub earlier : List Session
   pub session : t .sessions
-      ≡ record { page = page; slot = slot; latest = slot-at (t .ring) (u .sizes .slots) page slot; tag = own-tag (u .key) new } ∷ earlier
+      ≡ record { page = page; slot = slot; latest = slot-at (t .ring) (u .sizes .slots) page slot; tag = own-tag (u .key) new; restarts = new .restarts; packet = new .packet } ∷ earlier
 
 -- from state s the power-up a resumes the entry c
 pub record Resumes (u : Setup) (s : State) (a : PowersUp) (c : Checkpoint) : Type 0 where
-  pub begins : power-up (s .ring) (s .fram) a .answer ≡ Begun
-  pub length-answered : power-up (s .ring) (s .fram) a .secret-length ≡ length (c .secret)
+  pub begins : power-up (s .form) (s .ring) (s .fram) a .answer ≡ Begun
+  pub length-answered : power-up (s .form) (s .ring) (s .fram) a .secret-length ≡ length (c .secret)
   -- no call of a list but a power-up is lent a state buffer, and one that stops leaves its own as it was: this still holds at 'restored'
-  pub restored : power-up (s .ring) (s .fram) a .state ≡ put (a .state) 0 (c .secret)
+  pub restored : power-up (s .form) (s .ring) (s .fram) a .state ≡ put (a .state) 0 (c .secret)
   -- one advance for each store to come, with only refused calls between, runs it to its end, and every such run ends so;
   -- each of its calls stops exactly where demand 1 says, a stop leaves every buffer, and an advance makes one store
   pub runs :
       let t = step u s (powered-up a) in
-      let n = length (stores-of (u .key) (u .sizes .slots) (s .journal) (power-up-draft (u .key) (a .nonce) c)) in
+      let n = length (stores-of (u .key) (u .sizes .slots) (s .journal) (power-up-draft (s .form) (u .key) (a .nonce) c)) in
       Uninterrupted u t (advances-of u n t) × (length (answers u (advances-of u n t) t) ≡ n)
   pub ends :
       let t = step u s (powered-up a) in
-      let n = length (stores-of (u .key) (u .sizes .slots) (s .journal) (power-up-draft (u .key) (a .nonce) c)) in
+      let n = length (stores-of (u .key) (u .sizes .slots) (s .journal) (power-up-draft (s .form) (u .key) (a .nonce) c)) in
       (events : List Event) → Uninterrupted u t events → length (answers u events t) ≡ n
       → (answers u events t ≡ replicate (n - 1) GoingOn ++ Restored ∷ []) × Exactly u t events
-      × Stands u (run u t events) (power-up-draft (u .key) (a .nonce) c)
+      × Stands u (run u t events) (power-up-draft (s .form) (u .key) (a .nonce) c)
 
+-- the checkpoint that the power-up a would seal anew of the entry c is longer than a half
+abbrev pub Outgrown : Setup → State → PowersUp → Checkpoint → Type 0
+Outgrown u s a c = half-length (s .fram) < length (sealed (u .key) (power-up-draft (s .form) (u .key) (a .nonce) c))
+
+-- 6 exactly if nothing was recorded; 13 exactly if 8 power-ups were recorded since the last record that set restarts to 0;
+-- 4 exactly if there is an entry, the power-ups are not 8, and the entry sealed anew outgrows the half; and else it resumes the entry
 pub record Outcome (u : Setup) (s : State) (a : PowersUp) : Type 0 where
-  pub nothing : (power-up (s .ring) (s .fram) a .answer ≡ Stopped 6) ↔ (s .journal .entry ≡ none)
-  pub worn : (power-up (s .ring) (s .fram) a .answer ≡ Stopped 13) ↔ (s .journal .power-ups ≡ restart-limit)
-  pub resumes : (c : Checkpoint) → s .journal .entry ≡ some c → (s .journal .power-ups ≡ restart-limit → ⊥) → Resumes u s a c
+  pub nothing : (power-up (s .form) (s .ring) (s .fram) a .answer ≡ Stopped 6) ↔ (s .journal .entry ≡ none)
+  pub worn : (power-up (s .form) (s .ring) (s .fram) a .answer ≡ Stopped 13) ↔ (s .journal .power-ups ≡ restart-limit)
+  pub outgrown : (power-up (s .form) (s .ring) (s .fram) a .answer ≡ Stopped 4)
+      ↔ ((c : Checkpoint) × (s .journal .entry ≡ some c) × (s .journal .power-ups ≡ restart-limit → ⊥) × Outgrown u s a c)
+  pub resumes : (c : Checkpoint) → s .journal .entry ≡ some c → (s .journal .power-ups ≡ restart-limit → ⊥) → (Outgrown u s a c → ⊥) → Resumes u s a c
 
 -- ---- look and its companion after the list
 
@@ -189,14 +202,15 @@ looks u = record { sizes = u .sizes; key = u .key }
 
 -- look gives 6 if nothing was recorded, else the entry's restarts, and its companion the entry's open part
 pub record Seen (u : Setup) (s : State) : Type 0 where
-  pub nothing : s .journal .entry ≡ none → look (s .ring) (s .fram) (looks u) ≡ Unseen 6
-  pub restarts : (c : Checkpoint) → s .journal .entry ≡ some c → look (s .ring) (s .fram) (looks u) ≡ Restarts (c .restarts)
-  pub open-part : (c : Checkpoint) → s .journal .entry ≡ some c → stretch-of (s .fram) (open-stretch (s .ring) (s .fram) (looks u)) ≡ c .open-part
+  pub nothing : s .journal .entry ≡ none → look (s .form) (s .ring) (s .fram) (looks u) ≡ Unseen 6
+  pub restarts : (c : Checkpoint) → s .journal .entry ≡ some c → look (s .form) (s .ring) (s .fram) (looks u) ≡ Restarts (c .restarts)
+  pub open-part : (c : Checkpoint) → s .journal .entry ≡ some c → stretch-of (s .fram) (open-stretch (s .form) (s .ring) (s .fram) (looks u)) ≡ c .open-part
 
+-- `form` is that of the firmware which the unit begins with
 unfoldable pub Recovery : Type 0
 Recovery =
-    (u : Setup) (ring fram : List ℕ) → blank ring ≡ true
-    → (events : List Event) → Allowed u (fresh ring fram) events
-    → Exactly u (fresh ring fram) events
-    × (Fits u ring fram → Seen u (run u (fresh ring fram) events)
-    × ((a : PowersUp) → Last u (run u (fresh ring fram) events) a → Outcome u (run u (fresh ring fram) events) a))
+    (u : Setup) (form : Form) (ring fram : List ℕ) → blank ring ≡ true
+    → (events : List Event) → Allowed u (fresh form ring fram) events
+    → Exactly u (fresh form ring fram) events
+    × (Fits u ring fram → Seen u (run u (fresh form ring fram) events)
+    × ((a : PowersUp) → Last u (run u (fresh form ring fram) events) a → Outcome u (run u (fresh form ring fram) events) a))

@@ -1,4 +1,4 @@
--- What the operations take and answer (document 01, "What the unit calls"). A stop is one of the numbers of its table.
+-- What the operations take and answer (document 01, "What the unit calls", and document 02, A.2). A stop is one of the papers' numbers.
 use Prim.Native.Nat.{ℕ}
 use mathlib.Core.List.{List}
 
@@ -15,7 +15,8 @@ pub data Origin : Type 0 where
   Save : Origin
   PowerUp : Origin
 
--- half 0 is A and half 1 is B; page and slot are the target
+-- half 0 is A and half 1 is B; page and slot are the target; tag, restarts and packet number are its checkpoint's (older firmware
+-- does not hold the last two, and at Older nothing reads them)
 pub record Job : Type 0 where
   pub phase : Phase
   pub origin : Origin
@@ -25,12 +26,17 @@ pub record Job : Type 0 where
   pub slot : ℕ
   pub nonce : List ℕ
   pub tag : List ℕ
+  pub restarts : ℕ
+  pub packet : ℕ
 
+-- the newest record and where it stands, and its checkpoint's tag, restarts and packet number
 pub record Session : Type 0 where
   pub page : ℕ
   pub slot : ℕ
   pub latest : List ℕ
   pub tag : List ℕ
+  pub restarts : ℕ
+  pub packet : ℕ
 
 -- what an advance answers
 pub data Progress : Type 0 where

@@ -9,7 +9,7 @@ use lib.ListN.{getD}
 use Rattle.stops.specs.Stops.{first-of, then-stop}
 use Rattle.stops.specs.View.{stop-number}
 use Rattle.stops.specs.declared.Stop.{Stop}
-use Rattle.stops.specs.declared.Stop.the-variants.{RingSize, FramSize, KeyNonceTagSize, BufferSize, RingInUse, RingBlank, RingUnreadable, StaleSession, PagePending, NonceUsed, BadHead, TagDiffers, RestartLimit, BadJob, BadLine, BadChecksum, DataMisplaced}
+use Rattle.stops.specs.declared.Stop.the-variants.{RingSize, FramSize, KeyNonceTagSize, BufferSize, RingInUse, RingBlank, RingUnreadable, StaleSession, PagePending, NonceUsed, BadHead, TagDiffers, RestartLimit, BadJob, BadLine, BadChecksum, DataMisplaced, PacketTooLarge}
 
 -- the conditions of a list tried in turn, from what was found before them
 unfoldable pub tried : Option ℕ → List (ℕ × Bool) → Option ℕ
@@ -73,7 +73,7 @@ neither false b e = (refl, e)
 stops : List Stop
 stops =
     RingSize ∷ FramSize ∷ KeyNonceTagSize ∷ BufferSize ∷ RingInUse ∷ RingBlank ∷ RingUnreadable ∷ StaleSession ∷ PagePending ∷ NonceUsed
-    ∷ BadHead ∷ TagDiffers ∷ RestartLimit ∷ BadJob ∷ BadLine ∷ BadChecksum ∷ DataMisplaced ∷ []
+    ∷ BadHead ∷ TagDiffers ∷ RestartLimit ∷ BadJob ∷ BadLine ∷ BadChecksum ∷ DataMisplaced ∷ PacketTooLarge ∷ []
 
 stop-of : ℕ → Stop
 stop-of n = getD stops (n - 1) RingSize
@@ -97,6 +97,7 @@ back BadJob = refl
 back BadLine = refl
 back BadChecksum = refl
 back DataMisplaced = refl
+back PacketTooLarge = refl
 
 pub stop-number-injective : (s t : Stop) → stop-number s ≡ stop-number t → s ≡ t
 stop-number-injective s t e = sym (back s) ∙ ap stop-of e ∙ back t

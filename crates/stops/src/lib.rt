@@ -22,6 +22,7 @@ pub enum Stop {
     BadLine,
     BadChecksum,
     DataMisplaced,
+    PacketTooLarge,
 }
 
 // What an operation's checks say.
@@ -52,6 +53,7 @@ pub fn stop_number(stop: Stop) -> u32
         Stop::BadLine => 15,
         Stop::BadChecksum => 16,
         Stop::DataMisplaced => 17,
+        Stop::PacketTooLarge => 18,
     }
 }
 

@@ -1,6 +1,6 @@
 //! The calls of `hosts/c/keeper.h` as they are: numbers and byte slices in, a number out.
 //!
-//! They are for a caller that keeps jobs and sessions as bytes: a job is 56 bytes, a session 40. Each call answers
+//! They are for a caller that keeps jobs and sessions as bytes: a job is 64 bytes, a session 48. Each call answers
 //! [`DONE`] or the number of a [`Stop`](crate::Stop); [`advance`] answers [`GOING_ON`], [`SAVED`], [`RESTORED`] or the
 //! number of a stop. A stop changes no buffer. Slices of any length may be given: lengths are checked by the calls.
 //!
@@ -24,9 +24,9 @@ pub const SAVED: u32 = 257;
 pub const RESTORED: u32 = 258;
 
 /// How many bytes a job is.
-pub const JOB: usize = 56;
+pub const JOB: usize = 64;
 /// How many bytes a session is.
-pub const SESSION: usize = 40;
+pub const SESSION: usize = 48;
 
 extern "C" {
     fn keeper_seal(key: *const u8, key_len: usize, nonce: *const u8, nonce_len: usize,
@@ -38,12 +38,12 @@ extern "C" {
     fn keeper_first_save(pages: usize, slots: usize, ring: *const u8, ring_len: usize,
         fram: *const u8, fram_len: usize, key: *const u8, key_len: usize,
         nonce: *const u8, nonce_len: usize, starting_tag: *const u8, starting_tag_len: usize,
-        open_part: *const u8, open_len: usize, secret: *const u8, secret_len: usize,
+        packet: u32, open_part: *const u8, open_len: usize, secret: *const u8, secret_len: usize,
         staging: *mut u8, staging_len: usize, job: *mut u8, job_len: usize) -> u32;
     fn keeper_save(pages: usize, slots: usize, ring: *const u8, ring_len: usize,
         fram: *const u8, fram_len: usize, key: *const u8, key_len: usize,
         nonce: *const u8, nonce_len: usize, session: *const u8, session_len: usize,
-        open_part: *const u8, open_len: usize, secret: *const u8, secret_len: usize,
+        packet: u32, open_part: *const u8, open_len: usize, secret: *const u8, secret_len: usize,
         staging: *mut u8, staging_len: usize, job: *mut u8, job_len: usize) -> u32;
     fn keeper_power_up(pages: usize, slots: usize, ring: *const u8, ring_len: usize,
         fram: *const u8, fram_len: usize, key: *const u8, key_len: usize,
@@ -82,14 +82,14 @@ pub fn open(key: &[u8], nonce: &[u8], aad: &[u8], cipher: &[u8], tag: &[u8], out
 /// Starts the first save: the checkpoint goes into `staging`, its job into `job`.
 #[allow(clippy::too_many_arguments)]
 pub fn first_save(
-    sizes: Sizes, ring: &[u8], fram: &[u8], key: &[u8], nonce: &[u8], starting_tag: &[u8], open_part: &[u8],
-    secret: &[u8], staging: &mut [u8], job: &mut [u8]
+    sizes: Sizes, ring: &[u8], fram: &[u8], key: &[u8], nonce: &[u8], starting_tag: &[u8], packet: u32,
+    open_part: &[u8], secret: &[u8], staging: &mut [u8], job: &mut [u8]
 ) -> u32 {
     // Sound: see the top of this file.
     unsafe {
         keeper_first_save(sizes.pages, sizes.slots, ring.as_ptr(), ring.len(), fram.as_ptr(), fram.len(),
             key.as_ptr(), key.len(), nonce.as_ptr(), nonce.len(), starting_tag.as_ptr(), starting_tag.len(),
-            open_part.as_ptr(), open_part.len(), secret.as_ptr(), secret.len(),
+            packet, open_part.as_ptr(), open_part.len(), secret.as_ptr(), secret.len(),
             staging.as_mut_ptr(), staging.len(), job.as_mut_ptr(), job.len())
     }
 }
@@ -97,14 +97,14 @@ pub fn first_save(
 /// Starts a save: the checkpoint goes into `staging`, its job into `job`.
 #[allow(clippy::too_many_arguments)]
 pub fn save(
-    sizes: Sizes, ring: &[u8], fram: &[u8], key: &[u8], nonce: &[u8], session: &[u8], open_part: &[u8],
-    secret: &[u8], staging: &mut [u8], job: &mut [u8]
+    sizes: Sizes, ring: &[u8], fram: &[u8], key: &[u8], nonce: &[u8], session: &[u8], packet: u32,
+    open_part: &[u8], secret: &[u8], staging: &mut [u8], job: &mut [u8]
 ) -> u32 {
     // Sound: see the top of this file.
     unsafe {
         keeper_save(sizes.pages, sizes.slots, ring.as_ptr(), ring.len(), fram.as_ptr(), fram.len(),
             key.as_ptr(), key.len(), nonce.as_ptr(), nonce.len(), session.as_ptr(), session.len(),
-            open_part.as_ptr(), open_part.len(), secret.as_ptr(), secret.len(),
+            packet, open_part.as_ptr(), open_part.len(), secret.as_ptr(), secret.len(),
             staging.as_mut_ptr(), staging.len(), job.as_mut_ptr(), job.len())
     }
 }

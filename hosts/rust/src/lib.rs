@@ -5,14 +5,20 @@
 //!
 //! - the **nonce ring** in flash: 3 to 32 pages of 2 to 512 slots ([`Sizes`]), 16 bytes a slot, 0xFF where blank. Its
 //!   newest record has the newest checkpoint's nonce and says in which half of the FRAM it stands;
-//! - the **FRAM**: a multiple of 8 bytes, from 88 to 131,072, cut into two halves. A checkpoint is 44 bytes plus an open
+//! - the **FRAM**: a multiple of 8 bytes, from 88 to 131,072, cut into two halves. A checkpoint is 48 bytes plus an open
 //!   part and a secret part of up to 4,096 bytes each, and must fit a half.
+//!
+//! Checkpoints of the older form, which was 44 bytes plus the parts and had no packet number, are still read; a power-up
+//! seals them anew in the longer form.
 //!
 //! A start ([`first_save`], [`save`] or [`power_up`]) seals a checkpoint into a staging buffer, at least one half long,
 //! and answers a [`Job`]; each [`advance`] then makes one store: a page erased, a word of 4 bytes, or a record. The last
 //! one says 'saved' or 'restored' and hands out the [`Session`] that the next save needs. Wherever the power fails, a
 //! power-up resumes the newest complete checkpoint and no other. A [`Stop`] says why a call was refused; then no buffer
 //! has changed.
+//!
+//! Each power-up's checkpoint has one restart more, and at 8 restarts the next power-up stops. A save sets them to 0 if it
+//! brings a packet number above the one stored before; hearing only repeats is not progress.
 //!
 //! What the keeper asks of a unit: one key and one set of sizes for its life, a nonce never used twice, one job at a
 //! time, advanced with the staging buffer as its start left it, and nobody else writing to the memories.
@@ -44,9 +50,10 @@
 //! // On a unit the key is the device's, and the random generator makes each nonce and the starting tag.
 //! let key = [7; 32];
 //!
-//! let job = first_save(sizes, &ring, &fram, &key, &[1; 12], &[9; 16], b"volume 3", b"timer 00", &mut staging)?;
+//! // No packet was heard yet; then packet 7.
+//! let job = first_save(sizes, &ring, &fram, &key, &[1; 12], &[9; 16], 0, b"volume 3", b"timer 00", &mut staging)?;
 //! let session = finish(sizes, &mut ring, &mut fram, &staging, job)?;
-//! let job = save(sizes, &ring, &fram, &key, &[2; 12], &session, b"volume 4", b"timer 09", &mut staging)?;
+//! let job = save(sizes, &ring, &fram, &key, &[2; 12], &session, 7, b"volume 4", b"timer 09", &mut staging)?;
 //! finish(sizes, &mut ring, &mut fram, &staging, job)?;
 //!
 //! // The supply dips: only ring and FRAM are left.
@@ -58,8 +65,15 @@
 //! let seen = look(sizes, &ring, &fram, &key)?;
 //! assert_eq!((seen.restarts, seen.open_part), (1, &b"volume 4"[..]));
 //!
-//! // The next save starts from the session that the power-up handed out.
-//! save(sizes, &ring, &fram, &key, &[4; 12], &session, b"volume 4", b"timer 10", &mut staging)?;
+//! // The next save starts from the session that the power-up handed out. Packet 7 again: the restart is kept.
+//! let job = save(sizes, &ring, &fram, &key, &[4; 12], &session, 7, b"volume 4", b"timer 10", &mut staging)?;
+//! let session = finish(sizes, &mut ring, &mut fram, &staging, job)?;
+//! assert_eq!(look(sizes, &ring, &fram, &key)?.restarts, 1);
+//!
+//! // Packet 8 is progress.
+//! let job = save(sizes, &ring, &fram, &key, &[5; 12], &session, 8, b"volume 4", b"timer 11", &mut staging)?;
+//! finish(sizes, &mut ring, &mut fram, &staging, job)?;
+//! assert_eq!(look(sizes, &ring, &fram, &key)?.restarts, 0);
 //! # Ok(())
 //! # }
 //! ```
@@ -84,7 +98,8 @@ pub struct Sizes {
     pub slots: usize,
 }
 
-/// What a start leaves to do: its phase, half, length, target, nonce and its checkpoint's own tag.
+/// What a start leaves to do: its phase, half, length, target, nonce, and its checkpoint's own tag, restarts and packet
+/// number.
 ///
 /// It can be kept as bytes. Advance the job that was handed out last, and no copy of an earlier one: the unit has one
 /// job at a time.
@@ -103,15 +118,15 @@ impl Job {
     }
 }
 
-/// The newest checkpoint's page, slot, record and tag, from which the next save starts.
+/// The newest checkpoint's page, slot, record, tag, restarts and packet number, from which the next save starts.
 ///
 /// It can be kept as bytes, and serves until a newer record exists.
 #[derive(Clone, Copy, Debug, PartialEq, Eq)]
 pub struct Session([u8; calls::SESSION]);
 
 impl Session {
-    /// The session kept as these bytes. [`save`] refuses one that is not the newest record's by
-    /// [`Stop::StaleSession`].
+    /// The session kept as these bytes. [`save`] refuses one that is not the newest record's, or whose restarts or packet
+    /// number are out of range, by [`Stop::StaleSession`].
     pub fn from_bytes(bytes: [u8; calls::SESSION]) -> Session {
         Session(bytes)
     }
@@ -134,7 +149,7 @@ pub struct PoweredUp {
 /// What look answers.
 #[derive(Clone, Copy, Debug, PartialEq, Eq)]
 pub struct Looked<'a> {
-    /// Power-ups recorded since the last save, 0 to 8.
+    /// Power-ups recorded since the last save that set restarts to 0, 0 to 8.
     pub restarts: u32,
     /// The open part itself, as that stretch of the FRAM image.
     pub open_part: &'a [u8],
@@ -173,11 +188,13 @@ pub fn open(key: &[u8], nonce: &[u8], aad: &[u8], cipher: &[u8], tag: &[u8], out
     done(calls::open(key, nonce, aad, cipher, tag, out))
 }
 
-/// Starts the first save, on a blank ring: restarts 0, half A, page 0, slot 0. The starting tag is 16 random bytes.
+/// Starts the first save, on a blank ring: restarts 0, half A, page 0, slot 0. The starting tag is 16 random bytes;
+/// `packet` is the packet number last heard, up to 2^30 − 1, and 0 where none was.
 ///
 /// # Errors
 ///
-/// [`Stop::RingSize`], [`Stop::FramSize`], [`Stop::KeyNonceTagSize`], [`Stop::BufferSize`], [`Stop::RingInUse`].
+/// [`Stop::RingSize`], [`Stop::FramSize`], [`Stop::KeyNonceTagSize`], [`Stop::BufferSize`], [`Stop::PacketTooLarge`],
+/// [`Stop::RingInUse`].
 #[allow(clippy::too_many_arguments)]
 pub fn first_save(
     sizes: Sizes,
@@ -186,22 +203,24 @@ pub fn first_save(
     key: &[u8],
     nonce: &[u8],
     starting_tag: &[u8],
+    packet: u32,
     open_part: &[u8],
     secret: &[u8],
     staging: &mut [u8],
 ) -> Result<Job, Stop> {
     let mut job = [0; calls::JOB];
-    done(calls::first_save(sizes, ring, fram, key, nonce, starting_tag, open_part, secret, staging, &mut job))?;
+    done(calls::first_save(sizes, ring, fram, key, nonce, starting_tag, packet, open_part, secret, staging, &mut job))?;
     Ok(Job(job))
 }
 
-/// Starts a save: restarts 0, the half that the newest record does not name, the next target, the previous tag from the
-/// session.
+/// Starts a save: the half that the newest record does not name, the next target, the previous tag from the session.
+/// `packet` is the packet number last heard, up to 2^30 − 1. Above the session's number it sets restarts to 0; otherwise
+/// restarts and number are the session's.
 ///
 /// # Errors
 ///
-/// [`Stop::RingSize`], [`Stop::FramSize`], [`Stop::KeyNonceTagSize`], [`Stop::BufferSize`], [`Stop::RingBlank`],
-/// [`Stop::RingUnreadable`], [`Stop::StaleSession`], [`Stop::PagePending`], [`Stop::NonceUsed`].
+/// [`Stop::RingSize`], [`Stop::FramSize`], [`Stop::KeyNonceTagSize`], [`Stop::BufferSize`], [`Stop::PacketTooLarge`],
+/// [`Stop::RingBlank`], [`Stop::RingUnreadable`], [`Stop::StaleSession`], [`Stop::PagePending`], [`Stop::NonceUsed`].
 #[allow(clippy::too_many_arguments)]
 pub fn save(
     sizes: Sizes,
@@ -210,22 +229,25 @@ pub fn save(
     key: &[u8],
     nonce: &[u8],
     session: &Session,
+    packet: u32,
     open_part: &[u8],
     secret: &[u8],
     staging: &mut [u8],
 ) -> Result<Job, Stop> {
     let mut job = [0; calls::JOB];
-    done(calls::save(sizes, ring, fram, key, nonce, &session.0, open_part, secret, staging, &mut job))?;
+    done(calls::save(sizes, ring, fram, key, nonce, &session.0, packet, open_part, secret, staging, &mut job))?;
     Ok(Job(job))
 }
 
 /// Opens the newest checkpoint, puts its secret part at the front of the state buffer (at least 4,096 bytes) and starts
-/// a new checkpoint of both parts under the new nonce, with one restart more.
+/// a new checkpoint of both parts under the new nonce, with one restart more and the same packet number. A checkpoint of
+/// the older form is sealed anew in the longer one, with packet number 0.
 ///
 /// # Errors
 ///
 /// [`Stop::RingSize`], [`Stop::FramSize`], [`Stop::KeyNonceTagSize`], [`Stop::BufferSize`], [`Stop::RingBlank`],
-/// [`Stop::RingUnreadable`], [`Stop::NonceUsed`], [`Stop::BadHead`], [`Stop::TagDiffers`], [`Stop::RestartLimit`].
+/// [`Stop::RingUnreadable`], [`Stop::NonceUsed`], [`Stop::BadHead`], [`Stop::TagDiffers`], [`Stop::RestartLimit`], and after
+/// them [`Stop::BufferSize`] again, where a checkpoint of the older form does not fit the half in the longer one.
 pub fn power_up(
     sizes: Sizes,
     ring: &[u8],

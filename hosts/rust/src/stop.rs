@@ -1,8 +1,9 @@
 use std::error::Error;
 use std::fmt;
 
-/// Why a call stopped. The conditions are tried in the order of their numbers, those that name the call only, and 15 to
-/// 17 line by line; the first that applies is answered, and no buffer changes.
+/// Why a call stopped. The conditions are tried in the order of their numbers, those that name the call only, but 18 right
+/// after 4, 15 to 17 line by line, and after 13 whether what a power-up seals anew fits the half (4); the first that applies
+/// is answered, and no buffer changes.
 #[derive(Clone, Copy, Debug, PartialEq, Eq, Hash, PartialOrd, Ord)]
 #[repr(u32)]
 pub enum Stop {
@@ -13,7 +14,8 @@ pub enum Stop {
     /// 3: key not 32, nonce not 12 or tag not 16 bytes.
     KeyNonceTagSize,
     /// 4: a part not a multiple of 4 bytes, above 4,096, or the checkpoint longer than a half; staging, state, output or
-    /// an export's text buffer too short; text or associated data above 65,536 bytes.
+    /// an export's text buffer too short; text or associated data above 65,536 bytes; a checkpoint of the older form that
+    /// does not fit its half in the longer one.
     BufferSize,
     /// 5: the ring is not blank.
     RingInUse,
@@ -21,7 +23,7 @@ pub enum Stop {
     RingBlank,
     /// 7: the ring is not readable.
     RingUnreadable,
-    /// 8: the session's page, slot or record is not the newest.
+    /// 8: the session's page, slot or record is not the newest, or its restarts or packet number are out of range.
     StaleSession,
     /// 9: a page is pending.
     PagePending,
@@ -33,7 +35,7 @@ pub enum Stop {
     TagDiffers,
     /// 13: restarts are 8.
     RestartLimit,
-    /// 14: the job is done; its length is not a multiple of 4, below 44 or above the half; its page, slot, half or word
+    /// 14: the job is done; its length is not a multiple of 4, below 48 or above the half; its page, slot, half or word
     /// is out of its range; or at a record the target is not blank.
     BadJob,
     /// 15: a malformed line, another type than 00, 01 and 04, any line after the end line, or no end line.
@@ -42,11 +44,13 @@ pub enum Stop {
     BadChecksum,
     /// 17: data outside the image, past a 64 KiB boundary within a line, or not above the data before.
     DataMisplaced,
+    /// 18: the packet number is above 2^30 − 1.
+    PacketTooLarge,
 }
 
 impl Stop {
-    /// Every stop, in the order in which they are tried.
-    pub const ALL: [Stop; 17] = [
+    /// Every stop, by its number.
+    pub const ALL: [Stop; 18] = [
         Stop::RingSize,
         Stop::FramSize,
         Stop::KeyNonceTagSize,
@@ -64,9 +68,10 @@ impl Stop {
         Stop::BadLine,
         Stop::BadChecksum,
         Stop::DataMisplaced,
+        Stop::PacketTooLarge,
     ];
 
-    /// The stop's number, 1 to 17.
+    /// The stop's number, 1 to 18.
     pub const fn number(self) -> u32 {
         self as u32
     }
@@ -88,14 +93,16 @@ impl Stop {
             Stop::RingInUse => "ring not blank",
             Stop::RingBlank => "ring wholly blank",
             Stop::RingUnreadable => "ring not readable",
-            Stop::StaleSession => "session's page, slot or record is not the newest",
+            Stop::StaleSession => {
+                "session's page, slot or record is not the newest, or its restarts or packet number are out of range"
+            }
             Stop::PagePending => "a page is pending",
             Stop::NonceUsed => "nonce equals one in a record of the newest page",
             Stop::BadHead => "a head word's kind or value wrong, or the checkpoint longer than the half",
             Stop::TagDiffers => "tag differs",
             Stop::RestartLimit => "restarts are 8",
             Stop::BadJob => {
-                "job done; length not a multiple of 4, below 44 or above the half; \
+                "job done; length not a multiple of 4, below 48 or above the half; \
                  page, slot, half or word out of its range; or at a record the target is not blank"
             }
             Stop::BadLine => {
@@ -105,6 +112,7 @@ impl Stop {
             Stop::DataMisplaced => {
                 "data outside the image, past a 64 KiB boundary within a line, or not above the data before"
             }
+            Stop::PacketTooLarge => "packet number too large",
         }
     }
 }
@@ -122,15 +130,16 @@ mod tests {
     use super::*;
 
     #[test]
-    fn numbers_are_1_to_17_and_lead_back() {
+    fn numbers_are_1_to_18_and_lead_back() {
         for number in 0..30 {
             let stop = Stop::from_number(number);
-            assert_eq!(stop.map(Stop::number), (1..=17).contains(&number).then_some(number));
+            assert_eq!(stop.map(Stop::number), (1..=18).contains(&number).then_some(number));
         }
     }
 
     #[test]
     fn a_stop_is_shown_with_its_number_and_words() {
         assert_eq!(Stop::TagDiffers.to_string(), "stop 12: tag differs");
+        assert_eq!(Stop::PacketTooLarge.to_string(), "stop 18: packet number too large");
     }
 }

@@ -4,7 +4,7 @@ use Rattle.checkpoint_values.proofs.opened.Statement.{statement}
 use Rattle.checkpoint_values.proofs.opened.Tie as tie
 
 secret-agrees-requires : tie.Need-secret-agrees-requires
-secret-agrees-requires c κs = c .before .before .before .before .before .before .before .before .before .before .before .before .before .before .before .before .before .before .before .before .before .before .before .pre .4
+secret-agrees-requires c κs = c .before .before .before .before .before .before .before .before .before .before .before .before .before .before .before .before .before .before .before .before .before .before .before .pre .5
 
 pub opened-spec : {M : Type 1} → statement M
 opened-spec =

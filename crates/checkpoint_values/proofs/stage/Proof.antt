@@ -12,18 +12,19 @@ seal-requires c κs =
     let two = c .before .part2 .ensures .1 in (
       (c .before .before .before .before .before .before .before .before .before .before .before .before .before .before .before .before .before .before .round-table .ensures, search needs, search needs, c .before .before .before .before .before .before .before .before .before .before .before .before .hash-steps .ensures),
       search needs,
-      start .pre .2,
+      start .pre .0,
+      start .pre .3,
       search needs,
-      omega (arith, one, start .pre .0),
-      omega (arith, two, start .pre .1),
-      omega (arith, one, two, start .pre .0, start .pre .1, start .pre .3),
+      omega (arith, one, start .pre .1),
+      omega (arith, two, start .pre .2),
+      omega (arith, one, two, start .pre .1, start .pre .2, start .pre .4),
     )
 
 same-length : tie.Need-same-length
 same-length c = search needs
 
 returns : tie.Need-returns
-returns c = same-length c ∙ c .before .before .before .before .before .before .before .before .before .before .before .before .before .before .before .before .before .before .before .before .before .before .before .before .before .pre .3
+returns c = same-length c ∙ c .before .before .before .before .before .before .before .before .before .before .before .before .before .before .before .before .before .before .before .before .before .before .before .before .before .pre .4
 
 pub stage-spec : {M : Type 1} → statement M
 stage-spec =

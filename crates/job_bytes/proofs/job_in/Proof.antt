@@ -65,12 +65,24 @@ sixteen-at-requires c κs =
     let l = job-long (short .before .before .before .args .bytes .now) (sym (short .before .no-job-in .ensures) ∙ short .if1 .left) in
     omega (arith, l)
 
+number-at-requires-6 : tie.Need-number-at-requires-6
+number-at-requires-6 c κs =
+    let short = c .before .before .before .before .before .before .before .before .before .before .before in
+    let l = job-long (short .before .before .before .args .bytes .now) (sym (short .before .no-job-in .ensures) ∙ short .if1 .left) in
+    omega (arith, l)
+
+number-at-requires-7 : tie.Need-number-at-requires-7
+number-at-requires-7 c κs =
+    let short = c .before .before .before .before .before .before .before .before .before .before .before .before in
+    let l = job-long (short .before .before .before .args .bytes .now) (sym (short .before .no-job-in .ensures) ∙ short .if1 .left) in
+    omega (arith, l)
+
 returns-2 : tie.Need-returns-2
 returns-2 c =
-    let short = c .before .before .before .before .before .before .before .before .before .before .before in
-    read-job (short .before .before .before .args .bytes .now) (sym (short .before .no-job-in .ensures) ∙ short .if1 .left) _ _ _ _ _ _ _ _
-    (c .before .before .before .before .before .before .before .before .phase-of .ensures ∙ ap₂ phase-of (c .before .before .before .before .before .before .before .before .before .before .word-at .ensures) (c .before .before .before .before .before .before .before .before .before .number-at .ensures)) (c .before .before .before .before .before .before .origin-of .ensures ∙ ap origin-of (c .before .before .before .before .before .before .before .word-at2 .ensures))
-    (c .before .before .before .before .before .number-at2 .ensures) (c .before .before .before .before .number-at3 .ensures) (c .before .before .before .number-at4 .ensures) (c .before .before .number-at5 .ensures) (c .before .nonce-at .ensures) (c .sixteen-at .ensures)
+    let short = c .before .before .before .before .before .before .before .before .before .before .before .before .before in
+    read-job (short .before .before .before .args .bytes .now) (sym (short .before .no-job-in .ensures) ∙ short .if1 .left) _ _ _ _ _ _ _ _ _ _
+    (c .before .before .before .before .before .before .before .before .before .before .phase-of .ensures ∙ ap₂ phase-of (c .before .before .before .before .before .before .before .before .before .before .before .before .word-at .ensures) (c .before .before .before .before .before .before .before .before .before .before .before .number-at .ensures)) (c .before .before .before .before .before .before .before .before .origin-of .ensures ∙ ap origin-of (c .before .before .before .before .before .before .before .before .before .word-at2 .ensures))
+    (c .before .before .before .before .before .before .before .number-at2 .ensures) (c .before .before .before .before .before .before .number-at3 .ensures) (c .before .before .before .before .before .number-at4 .ensures) (c .before .before .before .before .number-at5 .ensures) (c .before .before .before .nonce-at .ensures) (c .before .before .sixteen-at .ensures) (c .before .number-at6 .ensures) (c .number-at7 .ensures)
 
 pub job-in-spec : {M : Type 1} → statement M
 job-in-spec =
@@ -90,4 +102,6 @@ job-in-spec =
     number-at-requires-5
     nonce-at-requires
     sixteen-at-requires
+    number-at-requires-6
+    number-at-requires-7
     returns-2)

@@ -21,9 +21,9 @@ copy-at-requires-2 c κs = omega (arith, c .before .before .before .before .befo
 
 returns : tie.Need-returns
 returns c =
-    let start = c .before .before .before .before .before .before .before .before .before .before .before .before .before .before .before .before .before in
-    written-job (view-job (start .args .job)) (start .pre) (sym (slice-aggregate-copy-at (c .before .before .before .before .before .before .before .before .before))) (sym (slice-aggregate-copy-at-2 (c .before .before .before .before)))
-    (record { written = c .before .before .before .before .before .before .before .before .before .before .before .before .put-job-words .ensures; long = words-long (view-job (start .args .job)) }) (c .before .before .before .before .before .before .before .copy-at .ensures) (c .before .before .copy-at2 .ensures)
+    let start = c .before .before .before .before .before .before .before .before .before .before .before .before .before .before .before .before .before .before .before .before .before .before .before .before .before in
+    written-job (view-job (start .args .job)) (start .pre) (sym (slice-aggregate-copy-at (c .before .before .before .before .before .before .before .before .before .before .before .before .before .before .before .before .before))) (sym (slice-aggregate-copy-at-2 (c .before .before .before .before .before .before .before .before .before .before .before .before)))
+    (record { written = c .before .before .before .before .before .before .before .before .before .before .before .before .before .before .before .before .before .before .before .before .put-job-words .ensures; long = words-long (view-job (start .args .job)) }) (c .before .before .before .before .before .before .before .before .before .before .before .before .before .before .before .copy-at .ensures) (c .before .before .before .before .before .before .before .before .before .before .copy-at2 .ensures) (c .before .before .before .before .before .before .put-word .ensures) (c .before .before .put-word2 .ensures)
 
 pub put-job-spec : {M : Type 1} → statement M
 put-job-spec =
@@ -34,5 +34,7 @@ put-job-spec =
     copy-at-requires
     slice-aggregate-copy-at-2
     copy-at-requires-2
+    (λ c κs. search needs)
+    (λ c κs. search needs)
     (λ c. search needs)
     returns)

@@ -14,8 +14,8 @@ returns c = c .no-session .ensures ∙ rw (ne-eqb (length (c .before .before .be
 
 returns-2 : tie.Need-returns-2
 returns-2 c =
-    read-session (c .before .before .before .before .before .before .args .bytes .now) (c .before .before .before .before .if1 .left) _ _ _ _
-    (c .before .before .before .number-at .ensures) (c .before .before .number-at2 .ensures) (c .before .sixteen-at .ensures) (c .sixteen-at2 .ensures)
+    read-session (c .before .before .before .before .before .before .before .before .args .bytes .now) (c .before .before .before .before .before .before .if1 .left) _ _ _ _ _ _
+    (c .before .before .before .before .before .number-at .ensures) (c .before .before .before .before .number-at2 .ensures) (c .before .before .before .sixteen-at .ensures) (c .before .before .sixteen-at2 .ensures) (c .before .number-at3 .ensures) (c .number-at4 .ensures)
 
 pub session-in-spec : {M : Type 1} → statement M
 session-in-spec =
@@ -23,6 +23,8 @@ session-in-spec =
     (tie.spec
     (λ c κs. search needs)
     returns
+    (λ c κs. search needs)
+    (λ c κs. search needs)
     (λ c κs. search needs)
     (λ c κs. search needs)
     (λ c κs. search needs)

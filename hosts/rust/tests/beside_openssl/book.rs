@@ -1,6 +1,8 @@
-//! Document 01, "Runs, cuts and the book". The book never sees the memories.
+//! Document 01, "Runs, cuts and the book", with document 02's A.2: "The book's checkpoints also have the packet number (0
+//! in the older form), and the head and length of the form that the calls which made them write". The book never sees the
+//! memories.
 
-use crate::layout::Checkpoint;
+use crate::layout::{Checkpoint, Form};
 use crate::operations::Origin;
 
 #[derive(Clone, Copy, Debug, PartialEq)]
@@ -23,6 +25,8 @@ pub enum Cut {
 struct Draft {
     checkpoint: Checkpoint,
     origin: Origin,
+    /// Whether its record sets restarts to 0.
+    sets_to_0: bool,
     to_come: Vec<Store>,
 }
 
@@ -35,7 +39,7 @@ pub struct Book {
     pub n: usize,
     owed: bool,
     draft: Option<Draft>,
-    /// For demand 3: how many power-ups were recorded since the last recorded first save or save.
+    /// For demand 3: how many power-ups were recorded; "It counts power-ups since the last record that set restarts to 0."
     pub power_ups: usize,
 }
 
@@ -47,46 +51,62 @@ impl Book {
     // "A start that does not stop makes a new draft under its nonce". "A stop changes nothing": the book is told of
     // calls that did not stop only.
 
-    /// "for a first save the starting tag instead"
-    pub fn first_save(&mut self, nonce: &[u8], starting_tag: &[u8], open_part: &[u8], secret: &[u8]) {
+    /// "for a first save the starting tag instead"; A.2: "A first save stores its number with restarts 0."
+    pub fn first_save(
+        &mut self,
+        firmware: Form,
+        nonce: &[u8],
+        starting_tag: &[u8],
+        packet: u32,
+        open_part: &[u8],
+        secret: &[u8],
+    ) {
         let checkpoint = Checkpoint {
+            form: firmware,
+            packet: if firmware == Form::Longer { packet } else { 0 },
             open_part: open_part.to_vec(),
             secret: secret.to_vec(),
             restarts: 0,
             previous_tag: starting_tag.try_into().unwrap(),
             nonce: nonce.try_into().unwrap(),
         };
-        self.draft(checkpoint, Origin::Save);
+        self.draft(checkpoint, Origin::Save, true);
     }
 
-    /// "for a save its parts, restarts 0 and the entry's tag as previous one"
-    pub fn save(&mut self, nonce: &[u8], open_part: &[u8], secret: &[u8]) {
+    /// "for a save its parts, restarts 0 and the entry's tag as previous one"; A.2: "a save's restarts and number in it are
+    /// set as here": "Above the session's number it sets restarts to 0; otherwise restarts carry over, and the larger
+    /// number is stored." The session's number is the entry's.
+    pub fn save(&mut self, firmware: Form, nonce: &[u8], packet: u32, open_part: &[u8], secret: &[u8]) {
         let entry = self.entry.as_ref().expect("a save that did not stop, and no entry");
+        let sets_to_0 = firmware == Form::Older || packet > entry.packet;
         let checkpoint = Checkpoint {
+            form: firmware,
+            packet: if firmware == Form::Longer { packet.max(entry.packet) } else { 0 },
             open_part: open_part.to_vec(),
             secret: secret.to_vec(),
-            restarts: 0,
+            restarts: if sets_to_0 { 0 } else { entry.restarts },
             previous_tag: entry.tag(&self.key),
             nonce: nonce.try_into().unwrap(),
         };
-        self.draft(checkpoint, Origin::Save);
+        self.draft(checkpoint, Origin::Save, sets_to_0);
     }
 
-    /// "for a power-up the entry's parts, restarts one more and the entry's tag"
-    pub fn power_up(&mut self, nonce: &[u8]) {
+    /// "for a power-up the entry's parts, restarts one more and the entry's tag"; A.2: "A power-up keeps the number."
+    pub fn power_up(&mut self, firmware: Form, nonce: &[u8]) {
         let entry = self.entry.as_ref().expect("a power-up that did not stop, and no entry");
         let checkpoint = Checkpoint {
+            form: firmware,
             restarts: entry.restarts + 1,
             previous_tag: entry.tag(&self.key),
             nonce: nonce.try_into().unwrap(),
             ..entry.clone()
         };
-        self.draft(checkpoint, Origin::PowerUp);
+        self.draft(checkpoint, Origin::PowerUp, false);
     }
 
     /// "Its stores to come: an erase if owed, a word for each 4 bytes of length, the record, an erase if n is above 0 and
     /// a multiple of S."
-    fn draft(&mut self, checkpoint: Checkpoint, origin: Origin) {
+    fn draft(&mut self, checkpoint: Checkpoint, origin: Origin, sets_to_0: bool) {
         let mut to_come = Vec::new();
         if self.owed {
             to_come.push(Store::Erase);
@@ -96,7 +116,7 @@ impl Book {
         if self.n > 0 && self.n % self.slots == 0 {
             to_come.push(Store::Erase);
         }
-        self.draft = Some(Draft { checkpoint, origin, to_come });
+        self.draft = Some(Draft { checkpoint, origin, sets_to_0, to_come });
     }
 
     /// The stores that the draft has to come.
@@ -120,10 +140,12 @@ impl Book {
                 self.entry = Some(draft.checkpoint.clone());
                 self.n += 1;
                 self.owed = draft.to_come.contains(&Store::Erase);
-                self.power_ups = match draft.origin {
-                    Origin::Save => 0,
-                    Origin::PowerUp => self.power_ups + 1,
-                };
+                if draft.sets_to_0 {
+                    self.power_ups = 0;
+                }
+                if draft.origin == Origin::PowerUp {
+                    self.power_ups += 1;
+                }
             }
         }
     }

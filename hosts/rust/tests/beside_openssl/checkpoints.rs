@@ -1,6 +1,6 @@
 //! Sealed checkpoints, byte for byte, as they stand in staging after each start and in the FRAM after the last store.
 
-use crate::layout::{half_of, tag_of, Checkpoint};
+use crate::layout::{half_of, tag_of, Checkpoint, Form, LARGEST_PACKET};
 use crate::random::Random;
 use godwitshelf::*;
 
@@ -23,31 +23,45 @@ fn finished(ring: &mut [u8], fram: &mut [u8], staging: &[u8], mut job: Job) -> S
     }
 }
 
-/// A first save, a save and a power-up: half A, half B, half A.
-fn three_checkpoints(random: &mut Random, open: usize, secret: usize, spare: usize) {
-    let half = (44 + open + secret + 4 * spare).div_ceil(4) * 4;
+/// A first save, a save, a power-up and a save that hears no newer packet, which carries the power-up's restart over: in
+/// halves A, B, A and B.
+fn four_checkpoints(random: &mut Random, open: usize, secret: usize, spare: usize) {
+    let half = (48 + open + secret + 4 * spare).div_ceil(4) * 4;
     let mut ring = vec![0xFF; 16 * 6];
     let mut fram = random.bytes(2 * half);
     let key = random.bytes(32);
     let before = random.bytes(half + spare);
-    let nonces: [[u8; 12]; 3] = std::array::from_fn(|_| random.bytes(12).try_into().unwrap());
+    let nonces: [[u8; 12]; 4] = std::array::from_fn(|_| random.bytes(12).try_into().unwrap());
+    let mut packets = [random.next(), random.next(), random.next()].map(|number| number as u32 & LARGEST_PACKET);
+    packets.sort();
+    let [stale, heard, newer] = packets;
 
     let starting_tag: [u8; 16] = random.bytes(16).try_into().unwrap();
     let (open_part, secret_part) = (random.bytes(open), random.bytes(secret));
     let mut staging = before.clone();
-    let job = first_save(SIZES, &ring, &fram, &key, &nonces[0], &starting_tag, &open_part, &secret_part, &mut staging)
-        .unwrap();
-    let first =
-        Checkpoint { open_part, secret: secret_part, restarts: 0, previous_tag: starting_tag, nonce: nonces[0] };
+    #[rustfmt::skip]
+    let job = first_save(SIZES, &ring, &fram, &key, &nonces[0], &starting_tag, heard, &open_part, &secret_part,
+        &mut staging).unwrap();
+    let first = Checkpoint {
+        form: Form::Longer,
+        packet: heard,
+        open_part,
+        secret: secret_part,
+        restarts: 0,
+        previous_tag: starting_tag,
+        nonce: nonces[0],
+    };
     let sealed = checked(&staging, &before, &key, &first);
     let session = finished(&mut ring, &mut fram, &staging, job);
     assert!(half_of(&fram, 0)[..sealed.len()] == sealed);
 
     let (open_part, secret_part) = (random.bytes(open), random.bytes(secret));
     let mut staging = before.clone();
-    let job = save(SIZES, &ring, &fram, &key, &nonces[1], &session, &open_part, &secret_part, &mut staging).unwrap();
-    let second =
-        Checkpoint { open_part, secret: secret_part, restarts: 0, previous_tag: tag_of(&sealed), nonce: nonces[1] };
+    #[rustfmt::skip]
+    let job = save(SIZES, &ring, &fram, &key, &nonces[1], &session, newer, &open_part, &secret_part, &mut staging)
+        .unwrap();
+    let previous_tag = tag_of(&sealed);
+    let second = Checkpoint { packet: newer, open_part, secret: secret_part, previous_tag, nonce: nonces[1], ..first };
     let sealed = checked(&staging, &before, &key, &second);
     finished(&mut ring, &mut fram, &staging, job);
     assert!(half_of(&fram, 1)[..sealed.len()] == sealed);
@@ -59,8 +73,20 @@ fn three_checkpoints(random: &mut Random, open: usize, secret: usize, spare: usi
     let sealed = checked(&staging, &before, &key, &third);
     assert_eq!(up.secret_len, secret);
     assert!(state[..secret] == third.secret && state[secret..].iter().all(|byte| *byte == 0x5A));
-    finished(&mut ring, &mut fram, &staging, up.job);
+    let session = finished(&mut ring, &mut fram, &staging, up.job);
     assert!(half_of(&fram, 0)[..sealed.len()] == sealed);
+
+    let (open_part, secret_part) = (random.bytes(open), random.bytes(secret));
+    let mut staging = before.clone();
+    #[rustfmt::skip]
+    let job = save(SIZES, &ring, &fram, &key, &nonces[3], &session, stale, &open_part, &secret_part, &mut staging)
+        .unwrap();
+    let previous_tag = tag_of(&sealed);
+    let fourth = Checkpoint { open_part, secret: secret_part, previous_tag, nonce: nonces[3], ..third };
+    assert_eq!((fourth.restarts, fourth.packet), (1, newer));
+    let sealed = checked(&staging, &before, &key, &fourth);
+    finished(&mut ring, &mut fram, &staging, job);
+    assert!(half_of(&fram, 1)[..sealed.len()] == sealed);
 }
 
 #[test]
@@ -68,7 +94,7 @@ fn small_parts_of_every_size() {
     let mut random = Random::new(5);
     for open in 0..=24 {
         for secret in 0..=24 {
-            three_checkpoints(&mut random, 4 * open, 4 * secret, (open + secret) % 3);
+            four_checkpoints(&mut random, 4 * open, 4 * secret, (open + secret) % 3);
         }
     }
 }
@@ -79,11 +105,11 @@ fn parts_to_4096() {
     let limits = [0, 4, 2048, 4092, 4096];
     for open in limits {
         for secret in limits {
-            three_checkpoints(&mut random, open, secret, 0);
+            four_checkpoints(&mut random, open, secret, 0);
         }
     }
     for _ in 0..100 {
         let (open, secret, spare) = (4 * random.below(1025), 4 * random.below(1025), random.below(50));
-        three_checkpoints(&mut random, open, secret, spare);
+        four_checkpoints(&mut random, open, secret, spare);
     }
 }

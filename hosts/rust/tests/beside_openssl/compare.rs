@@ -1,13 +1,21 @@
-//! A call made by the keeper and by document 01, on the same bytes.
+//! A call made by the keeper and by the documents, on the same bytes.
 
+use crate::layout::Form;
 use crate::operations::{perform, Lent, Operation};
 use godwitshelf::{calls, Sizes};
 use std::cell::RefCell;
-use std::collections::BTreeMap;
+use std::collections::{BTreeMap, BTreeSet};
 
 thread_local! {
     /// How often each call gave each answer, in this thread's test.
     pub static ANSWERS: RefCell<BTreeMap<(Operation, u32), usize>> = const { RefCell::new(BTreeMap::new()) };
+    /// What else was met with, in this thread's test.
+    pub static SEEN: RefCell<BTreeSet<&'static str>> = const { RefCell::new(BTreeSet::new()) };
+}
+
+/// Notes that this was met with.
+pub fn saw(what: &'static str) {
+    SEEN.with_borrow_mut(|seen| seen.insert(what));
 }
 
 /// The keeper's own call.
@@ -16,9 +24,9 @@ fn keeper(operation: Operation, c: &mut Lent) -> u32 {
     #[rustfmt::skip]
     let answer = match operation {
         Operation::FirstSave => calls::first_save(sizes, &c.ring, &c.fram, &c.key, &c.nonce, &c.starting_tag,
-            &c.open_part, &c.secret, &mut c.staging, &mut c.job),
+            c.packet, &c.open_part, &c.secret, &mut c.staging, &mut c.job),
         Operation::Save => calls::save(sizes, &c.ring, &c.fram, &c.key, &c.nonce, &c.session,
-            &c.open_part, &c.secret, &mut c.staging, &mut c.job),
+            c.packet, &c.open_part, &c.secret, &mut c.staging, &mut c.job),
         Operation::PowerUp => calls::power_up(sizes, &c.ring, &c.fram, &c.key, &c.nonce,
             &mut c.staging, &mut c.state, &mut c.job, &mut c.secret_len),
         Operation::Look => calls::look(sizes, &c.ring, &c.fram, &c.key,
@@ -29,10 +37,10 @@ fn keeper(operation: Operation, c: &mut Lent) -> u32 {
 }
 
 /// Makes the call on `lent`. An error says where the answer, a lent byte or a number behind a pointer differs from
-/// document 01; nothing may change on a stop, and what is lent for reading never.
+/// the documents; nothing may change on a stop, and what is lent for reading never.
 pub fn call(operation: Operation, lent: &mut Lent) -> Result<u32, String> {
     let mut expected = lent.clone();
-    let expected_answer = perform(operation, &mut expected);
+    let expected_answer = perform(Form::Longer, operation, &mut expected);
     let answer = keeper(operation, lent);
     if answer != expected_answer {
         return Err(format!("{operation:?} answers {answer}, not {expected_answer}"));

@@ -1,7 +1,9 @@
 //! Every cut of a whole save and of a whole power-up, in every place of the newest record, with several leftovers; then
-//! every cut of the power-up that follows; after each a power-up that must resume the checkpoint recorded last.
+//! every cut of the power-up that follows; after each a power-up that must resume the checkpoint recorded last. The save
+//! and the power-up are the keeper's or the older firmware's, the power-ups that follow the keeper's.
 
-use crate::unit::{Left, Setup, Unit};
+use crate::layout::Form;
+use crate::unit::{Heard, Left, Setup, Unit};
 
 const LEFT: [Left; 7] =
     [Left::Nothing, Left::Whole, Left::Every(0), Left::Every(1), Left::Every(0xFF), Left::Any(11), Left::Records(12)];
@@ -14,10 +16,12 @@ enum Start {
 }
 
 impl Start {
+    /// Every other save hears no newer packet.
     fn on(self, unit: &mut Unit) -> Result<(), String> {
+        let heard = if unit.book.n % 2 == 0 { Heard::Same } else { Heard::More(1) };
         match self {
-            Start::FirstSave => unit.first_save(vec![0xA1; 4], vec![0xA2; 8]),
-            Start::Save => unit.save(0, vec![0xB1; 8], vec![0xB2; 4]),
+            Start::FirstSave => unit.first_save(heard, vec![0xA1; 4], vec![0xA2; 8]),
+            Start::Save => unit.save(0, heard, vec![0xB1; 8], vec![0xB2; 4]),
             Start::PowerUp => unit.power_up().map(|_| ()),
         }
     }
@@ -51,6 +55,7 @@ fn every_cut_of(unit: &Unit, start: Start) -> Result<(), String> {
         let here = |words: String| format!("{start:?} cut {first}: {words}");
         unit.trial().map_err(here)?;
         let mut again = unit.clone();
+        again.update();
         again.power_up().map_err(here)?;
         for (second, unit) in after_every_cut(&again).map_err(here)? {
             unit.trial().map_err(|words| here(format!("power-up cut {second}: {words}")))?;
@@ -60,8 +65,8 @@ fn every_cut_of(unit: &Unit, start: Start) -> Result<(), String> {
 }
 
 /// Records in every place of the ring, twice around; every third is a power-up's.
-fn every_cut(pages: usize, slots: usize) -> Result<(), String> {
-    let mut unit = Unit::new(&Setup { pages, slots, fram: 2 * (44 + 12), seed: 7 });
+fn every_cut(firmware: Form, pages: usize, slots: usize, half: usize) -> Result<(), String> {
+    let mut unit = Unit::new(&Setup { pages, slots, fram: 2 * half, firmware, seed: 7 });
     every_cut_of(&unit, Start::FirstSave)?;
     for n in 0..2 * pages * slots {
         let start = match n {
@@ -82,10 +87,21 @@ fn every_cut(pages: usize, slots: usize) -> Result<(), String> {
 
 #[test]
 fn every_cut_on_3_pages_of_2_slots() {
-    every_cut(3, 2).unwrap_or_else(|words| panic!("{words}"));
+    every_cut(Form::Longer, 3, 2, 48 + 12).unwrap_or_else(|words| panic!("{words}"));
 }
 
 #[test]
 fn every_cut_on_4_pages_of_2_slots() {
-    every_cut(4, 2).unwrap_or_else(|words| panic!("{words}"));
+    every_cut(Form::Longer, 4, 2, 48 + 12).unwrap_or_else(|words| panic!("{words}"));
+}
+
+#[test]
+fn every_cut_of_the_older_firmware() {
+    every_cut(Form::Older, 3, 2, 48 + 12).unwrap_or_else(|words| panic!("{words}"));
+}
+
+/// Its checkpoints fill their halves, so that a power-up gives 4.
+#[test]
+fn every_cut_of_the_older_firmware_in_full_halves() {
+    every_cut(Form::Older, 3, 2, 44 + 12).unwrap_or_else(|words| panic!("{words}"));
 }

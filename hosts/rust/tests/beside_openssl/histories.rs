@@ -1,11 +1,13 @@
 //! Random histories under demand 3. `HISTORIES=n SEED=s cargo test histories` runs n of them from seed s on. One that
-//! fails is made smaller, event by event and number by number, and printed.
+//! fails is made smaller, event by event and number by number, and printed. In two of five the unit has the older firmware
+//! up to some cut.
 
-use crate::compare::ANSWERS;
+use crate::compare::{ANSWERS, SEEN};
 use crate::history::{Event, History, Twist};
+use crate::layout::{Form, LARGEST_PACKET};
 use crate::operations::Operation;
 use crate::random::Random;
-use crate::unit::{Left, Setup};
+use crate::unit::{Heard, Left, Setup};
 use std::env;
 
 const HISTORIES: u64 = 1000;
@@ -28,14 +30,27 @@ fn histories() {
     if count >= HISTORIES {
         let answers: Vec<(Operation, u32)> = ANSWERS.with_borrow(|answers| answers.keys().copied().collect());
         assert_eq!(answers, every_answer());
+        let seen: Vec<&str> = SEEN.with_borrow(|seen| seen.iter().copied().collect());
+        assert_eq!(seen, TO_BE_SEEN);
     }
 }
 
-/// Every answer that document 01 has for each call, 14 for a job buffer of a wrong length included.
+/// What A.2 adds and no answer shows by itself, in the order of the alphabet.
+const TO_BE_SEEN: [&str; 7] = [
+    "13 before the resealing's 4",
+    "13 for the older form",
+    "4 for a resealing that outgrows the half",
+    "8 for a session of the older firmware",
+    "restarts carried over",
+    "restarts set to 0",
+    "the older form resealed",
+];
+
+/// Every answer that the documents have for each call, 14 for a job buffer of a wrong length included.
 fn every_answer() -> Vec<(Operation, u32)> {
     let answers: [(Operation, &[u32]); 5] = [
-        (Operation::FirstSave, &[0, 1, 2, 3, 4, 5, 14]),
-        (Operation::Save, &[0, 1, 2, 3, 4, 6, 7, 8, 9, 10, 14]),
+        (Operation::FirstSave, &[0, 1, 2, 3, 4, 5, 14, 18]),
+        (Operation::Save, &[0, 1, 2, 3, 4, 6, 7, 8, 9, 10, 14, 18]),
         (Operation::PowerUp, &[0, 1, 2, 3, 4, 6, 7, 10, 11, 12, 13, 14]),
         (Operation::Look, &[0, 1, 2, 3, 6, 7, 11, 12]),
         (Operation::Advance, &[1, 2, 4, 14, 256, 257, 258]),
@@ -47,43 +62,51 @@ fn every_answer() -> Vec<(Operation, u32)> {
 
 fn generated(seed: u64) -> History {
     let mut random = Random::new(seed);
+    let firmware = if random.chance(2, 5) { Form::Older } else { Form::Longer };
     let setup = match random.below(60) {
         // Long checkpoints and memories of the largest size are slow, so they are few.
-        0 => Setup { pages: 32, slots: 512, fram: 88 + 8 * random.below(10), seed },
-        1 => Setup { pages: 3, slots: 2, fram: 2 * (44 + 4096 + 4096), seed },
-        2 => Setup { pages: 3, slots: 2, fram: 131_072, seed },
+        0 => Setup { pages: 32, slots: 512, fram: 88 + 8 * random.below(10), firmware, seed },
+        1 => Setup { pages: 3, slots: 2, fram: 2 * (firmware.empty() + 4096 + 4096), firmware, seed },
+        2 => Setup { pages: 3, slots: 2, fram: 131_072, firmware, seed },
         _ => Setup {
             pages: random.pick(&[3, 3, 3, 4, 4, 5, 6, 8, 32]),
             slots: random.pick(&[2, 2, 2, 3, 3, 4, 5, 8]),
-            fram: 88 + 8 * random.pick(&[0, 1, 2, 3, 5, 8, 13, 21]),
+            // 88 holds no checkpoint of the longer form.
+            fram: 88 + 8 * random.pick(&[0, 1, 1, 2, 3, 4, 5, 6, 9, 14, 22]),
+            firmware,
             seed,
         },
     };
     let large = setup.fram > 1000 || setup.slots > 100;
     let count = if large { 12 } else { 10 + random.below(70) };
-    // How often a start is a save, of 100.
+    let mut update = if firmware == Form::Older { 2 + random.below(count) } else { usize::MAX };
+    // How often a start is a save, of 100, and how often a save brings a number that it did not hear before.
     let saves = random.pick(&[3, 10, 40, 80]);
+    let fresh = random.pick(&[5, 30, 90]);
     let mut events = Vec::new();
     if random.chance(9, 10) {
-        let (open, secret) = part_sizes(&mut random, &setup);
-        events.push(Event::FirstSave { open, secret, fill: seed });
+        events.push(first_save(&mut random, &setup));
         events.push(Event::AllBut(0));
     }
     while events.len() < count {
+        if events.len() >= update {
+            events.push(Event::Update);
+            update = usize::MAX;
+        }
         match random.below(100) {
             0..40 => {
-                events.push(start(&mut random, &setup, saves));
+                events.push(start(&mut random, &setup, saves, fresh));
                 events.push(Event::AllBut(0));
             }
             40..55 => {
-                events.push(start(&mut random, &setup, saves));
+                events.push(start(&mut random, &setup, saves, fresh));
                 // Mostly near the end, where record and erase are.
                 let stores = random.below(4);
                 let times = random.below(setup.fram / 8 + 2);
                 events.push(if random.chance(2, 3) { Event::AllBut(stores) } else { Event::Advance(times) });
                 events.push(if random.chance(4, 5) { Event::CutInto(left(&mut random)) } else { Event::Cut });
             }
-            55..60 => events.push(start(&mut random, &setup, saves)),
+            55..60 => events.push(start(&mut random, &setup, saves, fresh)),
             60..65 => events.push(Event::Advance(1 + random.below(8))),
             65..68 => events.push(Event::Cut),
             68..71 => events.push(Event::CutInto(left(&mut random))),
@@ -94,23 +117,53 @@ fn generated(seed: u64) -> History {
     History { setup, events }
 }
 
-fn part_sizes(random: &mut Random, setup: &Setup) -> (usize, usize) {
-    let room = (setup.fram / 2 - 44) / 4;
+/// Parts that fit a half in this form; empty ones where none fit.
+fn part_sizes(random: &mut Random, setup: &Setup, form: Form) -> (usize, usize) {
+    let room = (setup.fram / 2).saturating_sub(form.empty()) / 4;
     let most = if setup.fram == 131_072 { 20 } else { room.min(1024) };
     let open = random.below(most + 1);
     let secret = random.below(most.min(room - open) + 1);
+    // Some fill their half, where parts may be so long.
+    if random.chance(1, 5) && room - open <= 1024 {
+        return (4 * open, 4 * (room - open));
+    }
     (4 * open, 4 * secret)
 }
 
-fn start(random: &mut Random, setup: &Setup, saves: usize) -> Event {
-    let (open, secret) = part_sizes(random, setup);
-    let fill = random.next();
+fn first_save(random: &mut Random, setup: &Setup) -> Event {
+    let (open, secret) = part_sizes(random, setup, setup.firmware);
+    let heard = match random.below(8) {
+        0 => Heard::Number(LARGEST_PACKET),
+        1 => Heard::Number(LARGEST_PACKET - 1),
+        2 => Heard::Number(LARGEST_PACKET + 1),
+        3..6 => Heard::Number(random.below(1000) as u32),
+        _ => Heard::Number(0),
+    };
+    Event::FirstSave { heard, open, secret, fill: random.next() }
+}
+
+/// The number that a save brings.
+fn heard(random: &mut Random, fresh: usize) -> Heard {
+    if random.chance(fresh, 100) {
+        return Heard::More(random.pick(&[1, 1, 1, 2, 256, 1 << 24, LARGEST_PACKET]));
+    }
+    match random.below(12) {
+        0 => Heard::Number(0),
+        1 => Heard::Number(random.pick(&[LARGEST_PACKET, LARGEST_PACKET + 1, u32::MAX])),
+        2..5 => Heard::Less(random.pick(&[1, 1, 2, 256])),
+        _ => Heard::Same,
+    }
+}
+
+fn start(random: &mut Random, setup: &Setup, saves: usize, fresh: usize) -> Event {
     if random.chance(1, 12) {
-        return Event::FirstSave { open, secret, fill };
+        return first_save(random, setup);
     }
     if random.chance(saves, 100) {
+        // After an update some outgrow their half, and are refused.
+        let (open, secret) = part_sizes(random, setup, setup.firmware);
         let session_back = if random.chance(1, 6) { 1 + random.below(4) } else { 0 };
-        return Event::Save { session_back, open, secret, fill };
+        return Event::Save { session_back, heard: heard(random, fresh), open, secret, fill: random.next() };
     }
     Event::PowerUp
 }
@@ -137,12 +190,12 @@ fn wrong(random: &mut Random, setup: &Setup) -> Event {
 fn twist(random: &mut Random, setup: &Setup, operation: Operation) -> Twist {
     let Setup { pages, slots, fram, .. } = *setup;
     let (ring, half) = (16 * pages * slots, fram / 2);
-    let room = half - 44;
+    let room = half.saturating_sub(48);
     let seed = random.next();
     let kind = random.below(4) as u32;
     match (operation, random.below(12)) {
         (Operation::Advance, 0..6) => match random.below(8) {
-            0 => Twist::JobLength(random.pick(&[0, 40, 55, 57, 64])),
+            0 => Twist::JobLength(random.pick(&[0, 48, 56, 63, 65, 72])),
             1 => Twist::OldJob(random.below(20)),
             2..5 => Twist::MadeUpJob(seed),
             _ => {
@@ -158,21 +211,24 @@ fn twist(random: &mut Random, setup: &Setup, operation: Operation) -> Twist {
                     half / 4,
                     40,
                     44,
-                    45,
-                    46,
                     48,
+                    49,
+                    50,
+                    52,
                 ];
                 let few = random.below(7) as u32;
                 let value = random.pick(&[few, few, random.clone().pick(&numbers) as u32, u32::MAX, 1 << 30, 1 << 31]);
-                Twist::JobWord(random.below(7), value)
+                Twist::JobWord(random.pick(&[0, 1, 2, 3, 4, 5, 6, 14, 15]), value)
             }
         },
-        (Operation::FirstSave, 0..8) => Twist::BlankRing,
-        (Operation::Save, 0..5) => match random.below(9) {
+        (Operation::FirstSave, 0..7) => Twist::BlankRing,
+        (Operation::FirstSave, 7) | (Operation::Save, 6) => Twist::Packet(packet(random)),
+        (Operation::Save, 0..5) => match random.below(11) {
             6 => Twist::PendingPage(random.pick(&[Left::Any(seed), Left::Records(seed)])),
-            7 | 8 => Twist::NewestSession,
-            0 => Twist::SessionLength(random.pick(&[0, 24, 39, 41, 56])),
-            1 => Twist::SessionBit(random.below(320)),
+            7..10 => Twist::NewestSession(random.pick(&[0, 1, 7, 8, 8, 9, 1 << 31]), packet(random)),
+            10 => Twist::SessionWord(10 + random.below(2), random.pick(&[8, 9, random.clone().next() as u32])),
+            0 => Twist::SessionLength(random.pick(&[0, 24, 40, 47, 49, 64])),
+            1 => Twist::SessionBit(random.below(384)),
             2 => {
                 Twist::SessionWord(random.below(2), random.pick(&[0, 1, pages as u32, slots as u32, u32::MAX, 1 << 31]))
             }
@@ -180,33 +236,47 @@ fn twist(random: &mut Random, setup: &Setup, operation: Operation) -> Twist {
             _ => Twist::OldSession(random.below(6)),
         },
         (Operation::Save | Operation::PowerUp, 5) => Twist::UsedNonce(random.below(slots + 1)),
-        (Operation::Look | Operation::PowerUp, 0..5) => match random.below(6) {
-            0 => Twist::HeadWord(
-                0,
-                random.pick(&[1, 1, kind]),
-                random.pick(&[0, room as u32 / 4, room as u32 / 4 + 1, 1024, 1025]),
+        (Operation::Look | Operation::PowerUp, 0..5) => match random.below(8) {
+            0 => Twist::HeadWord(0, random.pick(&[0, 0, kind]), random.pick(&[0, 1, 1 << 29, LARGEST_PACKET])),
+            // Which of the next two words is which part's length depends on the form.
+            1 | 2 => Twist::HeadWord(
+                random.below(3),
+                random.pick(&[1, 1, 2, 2, kind]),
+                random.pick(&[0, room as u32 / 4, room as u32 / 4 + 1, room as u32 / 4 + 2, 1024, 1025]),
             ),
-            1 => Twist::HeadWord(
-                1,
-                random.pick(&[2, 2, kind]),
-                random.pick(&[0, room as u32 / 4, room as u32 / 4 + 1, 1024, 1025]),
-            ),
-            2 => Twist::HeadWord(2, random.pick(&[3, 3, kind]), random.pick(&[0, 1, 7, 8, 9, 1 << 29])),
-            3 => Twist::FramByte(random.below(fram), seed as u8),
+            3 => {
+                Twist::HeadWord(2 + random.below(2), random.pick(&[3, 3, kind]), random.pick(&[0, 1, 7, 8, 9, 1 << 29]))
+            }
+            4 => {
+                let words = [0, 1, room as u32 / 4, room as u32 / 4 + 1, 1024, 1025];
+                Twist::LongerHead(random.pick(&[0, random.clone().pick(&words)]), random.pick(&words))
+            }
+            5 => Twist::FramByte(random.below(fram), seed as u8),
             _ => {
-                let (open, secret) = part_sizes(random, setup);
-                Twist::OtherCheckpoint { open, secret, restarts: random.pick(&[0, 1, 7, 8, 9]), fill: seed }
+                let form = random.pick(&[Form::Older, Form::Longer]);
+                let (open, secret) = part_sizes(random, setup, form);
+                let packet = match form {
+                    Form::Older => 0,
+                    Form::Longer => random.pick(&[0, 1, 1 << 29, LARGEST_PACKET]),
+                };
+                let restarts = random.pick(&[0, 1, 7, 8, 9]);
+                Twist::OtherCheckpoint { form, packet, open, secret, restarts, fill: seed }
             }
         },
         _ => any_twist(random, setup, ring, half, room, seed),
     }
 }
 
+/// A packet number at a limit.
+fn packet(random: &mut Random) -> u32 {
+    random.pick(&[0, 1, LARGEST_PACKET - 1, LARGEST_PACKET, LARGEST_PACKET, LARGEST_PACKET + 1, 1 << 31, u32::MAX])
+}
+
 /// A twist that any call can be given.
 fn any_twist(random: &mut Random, setup: &Setup, ring: usize, half: usize, room: usize, seed: u64) -> Twist {
     let Setup { pages, slots, fram, .. } = *setup;
     let parts = [1, 2, 3, 5, room, room + 4, 4092, 4096, 4097, 4100, 8192];
-    match random.below(18) {
+    match random.below(19) {
         0 => Twist::Pages(random.pick(&[0, 1, 2, 3, 32, 33, pages - 1, pages + 1, usize::MAX, 1 << 60])),
         1 => Twist::Slots(random.pick(&[0, 1, 2, 512, 513, slots - 1, slots + 1, usize::MAX, 1 << 60])),
         2 => Twist::PagesForSlots,
@@ -233,13 +303,14 @@ fn any_twist(random: &mut Random, setup: &Setup, ring: usize, half: usize, room:
         10 => Twist::SecretLength(random.pick(&parts)),
         11 => Twist::StagingLength(random.pick(&[0, 1, half - 4, half - 1, half, half + 1])),
         12 => Twist::StateLength(random.pick(&[0, 1, 4092, 4095, 4096, 4097])),
-        13 => Twist::JobLength(random.pick(&[0, 40, 55, 56, 57, 64])),
-        14 => Twist::SessionLength(random.pick(&[0, 39, 40, 41, 56])),
+        13 => Twist::JobLength(random.pick(&[0, 48, 56, 63, 64, 65])),
+        14 => Twist::SessionLength(random.pick(&[0, 40, 47, 48, 49, 64])),
         15 => Twist::RingByte(random.below(ring), random.pick(&[0, 1, 0x40, 0x80, 0xFE, 0xFF])),
         16 => Twist::RingByte(
             16 * random.below(ring / 16) + 12 + random.below(4),
             random.pick(&[0, 1, 2, 0x40, 0x80, 0xFF]),
         ),
+        17 => Twist::Packet(packet(random)),
         _ => Twist::RingPage(random.below(pages), random.pick(&[Left::Whole, Left::Any(seed), Left::Records(seed)])),
     }
 }
@@ -293,16 +364,32 @@ fn simpler_events(event: &Event) -> Vec<Event> {
         less
     };
     match event.clone() {
-        Event::FirstSave { open, secret, fill } => {
-            sizes(open, secret).into_iter().map(|(open, secret)| Event::FirstSave { open, secret, fill }).collect()
-        }
-        Event::Save { session_back, open, secret, fill } => {
+        Event::FirstSave { heard, open, secret, fill } => {
             let mut less: Vec<Event> = sizes(open, secret)
                 .into_iter()
-                .map(|(open, secret)| Event::Save { session_back, open, secret, fill })
+                .map(|(open, secret)| Event::FirstSave { heard, open, secret, fill })
+                .collect();
+            if heard != Heard::Number(0) {
+                less.push(Event::FirstSave { heard: Heard::Number(0), open, secret, fill });
+            }
+            less
+        }
+        Event::Save { session_back, heard, open, secret, fill } => {
+            let mut less: Vec<Event> = sizes(open, secret)
+                .into_iter()
+                .map(|(open, secret)| Event::Save { session_back, heard, open, secret, fill })
                 .collect();
             if session_back > 0 {
-                less.push(Event::Save { session_back: session_back - 1, open, secret, fill });
+                less.push(Event::Save { session_back: session_back - 1, heard, open, secret, fill });
+            }
+            if !matches!(heard, Heard::Same | Heard::More(1)) {
+                less.extend([Heard::Same, Heard::More(1)].map(|heard| Event::Save {
+                    session_back,
+                    heard,
+                    open,
+                    secret,
+                    fill,
+                }));
             }
             less
         }
@@ -333,6 +420,9 @@ fn simpler_setups(setup: &Setup) -> Vec<Setup> {
     }
     if setup.fram > 88 {
         less.extend([Setup { fram: 88, ..setup.clone() }, Setup { fram: setup.fram - 8, ..setup.clone() }]);
+    }
+    if setup.firmware == Form::Older {
+        less.push(Setup { firmware: Form::Longer, ..setup.clone() });
     }
     less
 }

@@ -1,10 +1,10 @@
 //! Histories: what happens to a unit, event by event, and calls with something wrong among them.
 
 use crate::compare::call;
-use crate::layout::{half_of, read_ring, record, word, Checkpoint, Newest, Reading};
+use crate::layout::{half_of, read_ring, record, word, Checkpoint, Form, Newest, Reading};
 use crate::operations::*;
 use crate::random::Random;
-use crate::unit::{stopped, Left, Setup, Unit};
+use crate::unit::{stopped, Heard, Left, Setup, Unit};
 use std::fmt;
 
 #[derive(Clone)]
@@ -16,6 +16,7 @@ pub struct History {
 #[derive(Clone, Debug)]
 pub enum Event {
     FirstSave {
+        heard: Heard,
         open: usize,
         secret: usize,
         fill: u64,
@@ -23,6 +24,7 @@ pub enum Event {
     /// With the session handed out last, or `session_back` before it.
     Save {
         session_back: usize,
+        heard: Heard,
         open: usize,
         secret: usize,
         fill: u64,
@@ -35,7 +37,9 @@ pub enum Event {
     Look,
     Cut,
     CutInto(Left),
-    /// A call with something wrong, on copies. A stop leaves everything, so the list goes on from the same bytes; where
+    /// A cut between two calls at which the unit gets the keeper's firmware.
+    Update,
+    /// A call of the keeper's with something wrong, on copies. A stop leaves everything, so the list goes on from the same bytes; where
     /// document 01 has no stop for it the copies are dropped, for the list may not have such a call.
     Wrong {
         operation: Operation,
@@ -57,6 +61,7 @@ pub enum Twist {
     NonceLength(usize),
     UsedNonce(usize),
     StartingTagLength(usize),
+    Packet(u32),
     OpenLength(usize),
     SecretLength(usize),
     StagingLength(usize),
@@ -70,8 +75,8 @@ pub enum Twist {
     SessionWord(usize, u32),
     OldSession(usize),
     OtherUnitsSession(u64),
-    /// As one for the newest record would be that was never handed out.
-    NewestSession,
+    /// As one for the newest record would be that was never handed out, with these restarts and this packet number.
+    NewestSession(u32, u32),
     BlankRing,
     /// Something in the page before the newest.
     PendingPage(Left),
@@ -79,8 +84,12 @@ pub enum Twist {
     RingPage(usize, Left),
     FramByte(usize, u8),
     HeadWord(usize, u32, u32),
+    /// The first four words of a longer head, whose parts have so many words.
+    LongerHead(u32, u32),
     /// Another checkpoint, rightly sealed, in the newest record's half.
     OtherCheckpoint {
+        form: Form,
+        packet: u32,
         open: usize,
         secret: usize,
         restarts: u32,
@@ -108,13 +117,13 @@ impl History {
 impl Event {
     fn happen(&self, unit: &mut Unit) -> Result<(), String> {
         match self.clone() {
-            Event::FirstSave { open, secret, fill } => {
+            Event::FirstSave { heard, open, secret, fill } => {
                 let (open_part, secret) = parts(open, secret, fill);
-                unit.first_save(open_part, secret)?;
+                unit.first_save(heard, open_part, secret)?;
             }
-            Event::Save { session_back, open, secret, fill } => {
+            Event::Save { session_back, heard, open, secret, fill } => {
                 let (open_part, secret) = parts(open, secret, fill);
-                unit.save(session_back, open_part, secret)?;
+                unit.save(session_back, heard, open_part, secret)?;
             }
             Event::PowerUp => {
                 unit.power_up()?;
@@ -124,6 +133,7 @@ impl Event {
             Event::Look => unit.look()?,
             Event::Cut => unit.cut(),
             Event::CutInto(left) => unit.cut_into(left)?,
+            Event::Update => unit.update(),
             // The unit is as it was, so there is nothing to try.
             Event::Wrong { operation, twists, fill } => return wrong(unit, operation, &twists, fill),
         }
@@ -150,9 +160,13 @@ fn advance(unit: &mut Unit, times: usize) -> Result<(), String> {
 fn wrong(unit: &Unit, operation: Operation, twists: &[Twist], fill: u64) -> Result<(), String> {
     let mut lent = unit.lent.clone();
     let mut random = Random::new(fill);
-    let room = (lent.fram.len() / 2 - 44) / 4;
+    let room = (lent.fram.len() / 2).saturating_sub(48) / 4;
     lent.nonce = unit.new_nonce();
-    lent.session = unit.session(0);
+    lent.session = match operation {
+        Operation::Advance => random.bytes(session_length(Form::Longer)),
+        _ => unit.session(0),
+    };
+    lent.packet = random.pick(&[0, 1, unit.packet(Heard::Same), unit.packet(Heard::More(1))]);
     lent.open_part = random.bytes(4 * (room / 3));
     lent.secret = random.bytes(4 * (room / 2));
     for twist in twists {
@@ -162,7 +176,7 @@ fn wrong(unit: &Unit, operation: Operation, twists: &[Twist], fill: u64) -> Resu
     if stopped(answer) || operation == Operation::Look {
         return Ok(());
     }
-    lent.session = random.bytes(40);
+    lent.session = random.bytes(session_length(Form::Longer));
     for _ in 0..60 {
         if call(Operation::Advance, &mut lent)? != GOING_ON {
             break;
@@ -184,6 +198,7 @@ impl Twist {
             Twist::NonceLength(n) => c.nonce.resize(n, 0xA5),
             Twist::UsedNonce(back) => c.nonce = unit.used_nonce(back),
             Twist::StartingTagLength(n) => c.starting_tag.resize(n, 0xA5),
+            Twist::Packet(n) => c.packet = n,
             Twist::OpenLength(n) => c.open_part.resize(n, 0xA5),
             Twist::SecretLength(n) => c.secret.resize(n, 0xA5),
             Twist::StagingLength(n) => c.staging.resize(n, 0xA5),
@@ -195,7 +210,7 @@ impl Twist {
                     c.job = job.to_vec();
                 }
             }
-            Twist::MadeUpJob(seed) => c.job = made_up_job(c, seed).to_bytes(),
+            Twist::MadeUpJob(seed) => c.job = made_up_job(c, seed).to_bytes(Form::Longer),
             Twist::SessionLength(n) => c.session.resize(n, 0xA5),
             Twist::SessionBit(bit) => turn(&mut c.session, bit),
             Twist::SessionWord(i, value) => put(&mut c.session, 4 * i, &value.to_be_bytes()),
@@ -206,11 +221,10 @@ impl Twist {
                 put(&mut c.session, 8, &record(&nonce, random.below(2)));
                 put(&mut c.session, 24, &random.bytes(16));
             }
-            Twist::NewestSession => {
-                if let Some(newest) = newest(unit) {
-                    c.session = [(newest.page as u32).to_be_bytes(), (newest.slot as u32).to_be_bytes()].concat();
-                    c.session.extend(newest.record);
-                    c.session.extend([0x66; 16]);
+            Twist::NewestSession(restarts, packet) => {
+                if let Some(Newest { page, slot, record, .. }) = newest(unit) {
+                    let session = Session { page, slot, record, tag: [0x66; 16], restarts, packet };
+                    c.session = session.to_bytes(Form::Longer);
                 }
             }
             Twist::BlankRing => c.ring.fill(0xFF),
@@ -232,10 +246,17 @@ impl Twist {
                 let half = newest(unit).map_or(0, |newest| newest.half);
                 put(&mut c.fram, half * (unit.lent.fram.len() / 2) + 4 * i, &word(kind, value));
             }
-            Twist::OtherCheckpoint { open, secret, restarts, fill } => {
+            Twist::LongerHead(open, secret) => {
+                let half = newest(unit).map_or(0, |newest| newest.half);
+                let words = [word(0, 5), word(1, open), word(2, secret), word(3, 1)].concat();
+                put(&mut c.fram, half * (unit.lent.fram.len() / 2), &words);
+            }
+            Twist::OtherCheckpoint { form, packet, open, secret, restarts, fill } => {
                 let Some(newest) = newest(unit) else { return };
                 let (open_part, secret) = parts(open, secret, fill);
                 let other = Checkpoint {
+                    form,
+                    packet,
                     open_part,
                     secret,
                     restarts,
@@ -277,7 +298,7 @@ fn turn(buffer: &mut [u8], bit: usize) {
 fn made_up_job(c: &Lent, seed: u64) -> Job {
     let mut random = Random::new(seed);
     let (pages, slots, half) = (c.pages.clamp(3, 32), c.slots.clamp(2, 512), c.fram.len() / 2);
-    let words = 11 + random.below(half.saturating_sub(44) / 4 + 1);
+    let words = 12 + random.below(half.saturating_sub(48) / 4 + 1);
     let mut job = Job {
         phase: match random.below(8) {
             0 => Phase::EraseFirst(random.below(pages)),
@@ -293,6 +314,9 @@ fn made_up_job(c: &Lent, seed: u64) -> Job {
         slot: random.pick(&[0, slots - 1, random.clone().below(slots)]),
         nonce: random.bytes(12).try_into().unwrap(),
         tag: random.bytes(16).try_into().unwrap(),
+        // No stop of an advance looks at these two.
+        restarts: random.pick(&[0, 8, 9, u32::MAX]),
+        packet: random.pick(&[0, 1 << 29, (1 << 30) - 1, 1 << 30, u32::MAX]),
     };
     match random.below(24) {
         0 => job.phase = Phase::Words(words),
@@ -301,7 +325,7 @@ fn made_up_job(c: &Lent, seed: u64) -> Job {
         3 => job.half = 2,
         4 => job.page = pages,
         5 => job.slot = slots,
-        6 => job.length = random.pick(&[40, half + 4, 4 * words + 1, 4 * words + 2]),
+        6 => job.length = random.pick(&[40, 44, half + 4, 4 * words + 1, 4 * words + 2]),
         7 => job.phase = Phase::Done,
         _ => (),
     }
@@ -310,8 +334,11 @@ fn made_up_job(c: &Lent, seed: u64) -> Job {
 
 impl fmt::Display for History {
     fn fmt(&self, f: &mut fmt::Formatter<'_>) -> fmt::Result {
-        let Setup { pages, slots, fram, seed } = self.setup;
+        let Setup { pages, slots, fram, firmware, seed } = self.setup;
         writeln!(f, "a ring of {pages} pages of {slots} slots, a FRAM of {fram} bytes, bytes by seed {seed}")?;
+        if firmware == Form::Older {
+            writeln!(f, "the older firmware at first")?;
+        }
         for (i, event) in self.events.iter().enumerate() {
             writeln!(f, "{:4}  {event}", i + 1)?;
         }
@@ -322,14 +349,15 @@ impl fmt::Display for History {
 impl fmt::Display for Event {
     fn fmt(&self, f: &mut fmt::Formatter<'_>) -> fmt::Result {
         match self {
-            Event::FirstSave { open, secret, .. } => {
-                write!(f, "first save, open part {open} bytes, secret part {secret}")
+            Event::FirstSave { heard, open, secret, .. } => {
+                write!(f, "first save, packet {heard:?}, open part {open} bytes, secret part {secret}")
             }
-            Event::Save { session_back: 0, open, secret, .. } => {
-                write!(f, "save, open part {open} bytes, secret part {secret}")
+            Event::Save { session_back: 0, heard, open, secret, .. } => {
+                write!(f, "save, packet {heard:?}, open part {open} bytes, secret part {secret}")
             }
-            Event::Save { session_back, open, secret, .. } => {
-                write!(f, "save with the session {session_back} before the last, open part {open} bytes, secret part {secret}")
+            Event::Save { session_back, heard, open, secret, .. } => {
+                write!(f, "save with the session {session_back} before the last, packet {heard:?}, ")?;
+                write!(f, "open part {open} bytes, secret part {secret}")
             }
             Event::PowerUp => write!(f, "power-up"),
             Event::AllBut(0) => write!(f, "advances to the end"),
@@ -338,6 +366,7 @@ impl fmt::Display for Event {
             Event::Look => write!(f, "look"),
             Event::Cut => write!(f, "cut between two calls"),
             Event::CutInto(left) => write!(f, "cut into the next store, leaving {left:?}"),
+            Event::Update => write!(f, "cut between two calls, and the keeper's firmware"),
             Event::Wrong { operation, twists, .. } => write!(f, "on copies: {operation:?} with {twists:?}"),
         }
     }

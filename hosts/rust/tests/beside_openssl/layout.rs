@@ -1,4 +1,5 @@
-//! Document 01, "The nonce ring (flash)" and "A half of the FRAM": reading a ring, and the bytes of a checkpoint.
+//! Document 01, "The nonce ring (flash)" and "A half of the FRAM", and document 02, A.2: reading a ring, and the bytes of a
+//! checkpoint in its older and its longer form.
 
 use crate::openssl;
 
@@ -103,8 +104,40 @@ pub fn half_of(fram: &[u8], half: usize) -> &[u8] {
     &fram[half * length..(half + 1) * length]
 }
 
+/// The head of a checkpoint: document 01's, or A.2's: "The checkpoint begins with one more word, kind 0, the packet
+/// number". It also says which firmware makes a call: the older one writes the older head and knows no other.
+#[derive(Clone, Copy, Debug, PartialEq)]
+pub enum Form {
+    Older,
+    Longer,
+}
+
+impl Form {
+    /// Where the open part starts. Document 01: "at byte 28 of the half"; A.2: "all 32 head bytes".
+    pub fn head(self) -> usize {
+        match self {
+            Form::Older => 28,
+            Form::Longer => 32,
+        }
+    }
+
+    /// A checkpoint with empty parts. Document 01: "44 bytes plus both parts"; A.2: "the length is then 48 plus parts".
+    pub fn empty(self) -> usize {
+        match self {
+            Form::Older => 44,
+            Form::Longer => 48,
+        }
+    }
+}
+
+/// A.2: "the packet number it last heard, 0 to 2^30 − 1".
+pub const LARGEST_PACKET: u32 = 0x3FFF_FFFF;
+
 #[derive(Clone, Debug, PartialEq)]
 pub struct Checkpoint {
+    pub form: Form,
+    /// "(0 in the older form)"
+    pub packet: u32,
     pub open_part: Vec<u8>,
     pub secret: Vec<u8>,
     pub restarts: u32,
@@ -113,15 +146,24 @@ pub struct Checkpoint {
 }
 
 impl Checkpoint {
-    /// "a checkpoint is 44 bytes plus both parts"
     pub fn length(&self) -> usize {
-        44 + self.open_part.len() + self.secret.len()
+        self.length_in(self.form)
     }
 
-    /// The bytes at the front of a half: three head words, the previous checkpoint's tag, open part, sealed secret part,
-    /// tag. "Associated data is the first 28 bytes and the open part; the plaintext is the secret part."
+    /// How long it is when it is sealed in this form.
+    pub fn length_in(&self, form: Form) -> usize {
+        form.empty() + self.open_part.len() + self.secret.len()
+    }
+
+    /// The bytes at the front of a half: the head words, the previous checkpoint's tag, open part, sealed secret part,
+    /// tag. "Associated data is the first 28 bytes and the open part; the plaintext is the secret part"; of the longer form
+    /// "all 32 head bytes are associated data".
     pub fn sealed(&self, key: &[u8]) -> Vec<u8> {
         let mut bytes = Vec::new();
+        match self.form {
+            Form::Older => assert_eq!(self.packet, 0, "the older form has no packet number"),
+            Form::Longer => bytes.extend(word(0, self.packet)),
+        }
         bytes.extend(word(1, self.open_part.len() as u32 / 4));
         bytes.extend(word(2, self.secret.len() as u32 / 4));
         bytes.extend(word(3, self.restarts));
@@ -144,12 +186,19 @@ pub fn tag_of(sealed: &[u8]) -> [u8; 16] {
     sealed[sealed.len() - 16..].try_into().unwrap()
 }
 
-/// The checkpoint at the front of a half with its own tag, or stop 11 or 12.
-pub fn open_half(half: &[u8], key: &[u8], nonce: &[u8]) -> Result<(Checkpoint, [u8; 16]), u32> {
-    let (open_kind, open_words) = kind_and_value(&half[0..4]);
-    let (secret_kind, secret_words) = kind_and_value(&half[4..8]);
-    let (restarts_kind, restarts) = kind_and_value(&half[8..12]);
-    // 11: "a head word's kind or value wrong, or the checkpoint longer than the half"
+/// The checkpoint at the front of a half with its own tag, or stop 11 or 12, as this firmware reads it.
+pub fn open_half(firmware: Form, half: &[u8], key: &[u8], nonce: &[u8]) -> Result<(Checkpoint, [u8; 16]), u32> {
+    let (first_kind, first_value) = kind_and_value(&half[0..4]);
+    // "A first word of kind 1 means the older head, number 0, still read".
+    let (form, packet, words) = match (firmware, first_kind) {
+        (Form::Older, _) | (Form::Longer, 1) => (Form::Older, 0, &half[..12]),
+        (Form::Longer, 0) => (Form::Longer, first_value, &half[4..16]),
+        // 11: "a head word's kind or value wrong, or the checkpoint longer than the half"
+        _ => return Err(11),
+    };
+    let (open_kind, open_words) = kind_and_value(&words[0..4]);
+    let (secret_kind, secret_words) = kind_and_value(&words[4..8]);
+    let (restarts_kind, restarts) = kind_and_value(&words[8..12]);
     if open_kind != 1 || open_words > 1024 {
         return Err(11);
     }
@@ -159,7 +208,8 @@ pub fn open_half(half: &[u8], key: &[u8], nonce: &[u8]) -> Result<(Checkpoint, [
     if restarts_kind != 3 || restarts > 8 {
         return Err(11);
     }
-    let (open_end, secret_end) = (28 + 4 * open_words as usize, 28 + 4 * (open_words + secret_words) as usize);
+    let open_end = form.head() + 4 * open_words as usize;
+    let secret_end = open_end + 4 * secret_words as usize;
     if secret_end + 16 > half.len() {
         return Err(11);
     }
@@ -169,10 +219,12 @@ pub fn open_half(half: &[u8], key: &[u8], nonce: &[u8]) -> Result<(Checkpoint, [
         return Err(12);
     };
     let checkpoint = Checkpoint {
-        open_part: half[28..open_end].to_vec(),
+        form,
+        packet,
+        open_part: half[form.head()..open_end].to_vec(),
         secret,
         restarts,
-        previous_tag: half[12..28].try_into().unwrap(),
+        previous_tag: half[form.head() - 16..form.head()].try_into().unwrap(),
         nonce: nonce.try_into().unwrap(),
     };
     Ok((checkpoint, tag.try_into().unwrap()))

@@ -13,11 +13,13 @@ struct Memories {
 
 impl Memories {
     fn first_save(&mut self, nonce: [u8; 12]) -> Result<Job, Stop> {
-        first_save(SIZES, &self.ring, &self.fram, &KEY, &nonce, &[4; 16], b"volume 3", b"t=10", &mut self.staging)
+        let Memories { ring, fram, staging } = self;
+        first_save(SIZES, ring, fram, &KEY, &nonce, &[4; 16], 20, b"volume 3", b"t=10", staging)
     }
 
-    fn save(&mut self, nonce: [u8; 12], session: &Session) -> Result<Job, Stop> {
-        save(SIZES, &self.ring, &self.fram, &KEY, &nonce, session, b"volume 4", b"t=11", &mut self.staging)
+    fn save(&mut self, nonce: [u8; 12], session: &Session, packet: u32) -> Result<Job, Stop> {
+        let Memories { ring, fram, staging } = self;
+        save(SIZES, ring, fram, &KEY, &nonce, session, packet, b"volume 4", b"t=11", staging)
     }
 
     /// Advances to the end, keeping the job as bytes between the stores; the answer and how many stores it took.
@@ -35,35 +37,43 @@ impl Memories {
     }
 }
 
-/// "M13 open 8, secret 4 bytes: length 56, so 14 words and a record: 15 stores, 16 with an erase."
+/// M13: open 8, secret 4 bytes. "M13 becomes 60 bytes and 16 stores, 17 with an erase."
 #[test]
 fn a_units_life() {
     let mut unit = Memories { ring: [0xFF; 96], fram: [0; 128], staging: [0; 64] };
     assert_eq!(look(SIZES, &unit.ring, &unit.fram, &KEY), Err(Stop::RingBlank));
 
     let job = unit.first_save([1; 12]).unwrap();
-    let (Progress::Saved(session), 15) = unit.finish(job) else { panic!() };
+    assert_eq!(job.as_bytes()[16..20], 60u32.to_be_bytes());
+    let (Progress::Saved(session), 16) = unit.finish(job) else { panic!() };
     assert_eq!(unit.first_save([2; 12]), Err(Stop::RingInUse));
-    assert_eq!(unit.save([1; 12], &session), Err(Stop::NonceUsed));
+    assert_eq!(unit.save([1; 12], &session, 21), Err(Stop::NonceUsed));
+    assert_eq!(unit.save([2; 12], &session, 1 << 30), Err(Stop::PacketTooLarge));
 
     let session = Session::from_bytes(*session.as_bytes());
-    let job = unit.save([2; 12], &session).unwrap();
-    let (Progress::Saved(_), 15) = unit.finish(job) else { panic!() };
-    assert_eq!(unit.save([3; 12], &session), Err(Stop::StaleSession));
+    let job = unit.save([2; 12], &session, 21).unwrap();
+    let (Progress::Saved(_), 16) = unit.finish(job) else { panic!() };
+    assert_eq!(unit.save([3; 12], &session, 22), Err(Stop::StaleSession));
 
     let mut state = [0; 4096];
     let up = power_up(SIZES, &unit.ring, &unit.fram, &KEY, &[3; 12], &mut unit.staging, &mut state).unwrap();
     assert_eq!(&state[..up.secret_len], b"t=11");
-    let (Progress::Restored(session), 16) = unit.finish(up.job) else { panic!() };
+    let (Progress::Restored(session), 17) = unit.finish(up.job) else { panic!() };
 
-    // The third checkpoint stands in half A, so its open part at byte 28 of the image.
+    // The third checkpoint stands in half A, so its open part at byte 32 of the image.
     let seen = look(SIZES, &unit.ring, &unit.fram, &KEY).unwrap();
     assert_eq!((seen.restarts, seen.open_part), (1, &b"volume 4"[..]));
-    assert!(std::ptr::eq(seen.open_part, &unit.fram[28..36]));
+    assert!(std::ptr::eq(seen.open_part, &unit.fram[32..40]));
     assert_eq!(look(SIZES, &unit.ring, &unit.fram, &[4; 32]), Err(Stop::TagDiffers));
     assert_eq!(look(SIZES, &unit.ring, &unit.fram, &[4; 31]), Err(Stop::KeyNonceTagSize));
 
-    assert!(unit.save([4; 12], &session).is_ok());
+    // No newer packet was heard: the restart is not forgotten.
+    let job = unit.save([4; 12], &session, 21).unwrap();
+    let (Progress::Saved(session), 16) = unit.finish(job) else { panic!() };
+    assert_eq!(look(SIZES, &unit.ring, &unit.fram, &KEY).map(|seen| seen.restarts), Ok(1));
+    let job = unit.save([5; 12], &session, 22).unwrap();
+    let (Progress::Saved(_), 17) = unit.finish(job) else { panic!() };
+    assert_eq!(look(SIZES, &unit.ring, &unit.fram, &KEY).map(|seen| seen.restarts), Ok(0));
 }
 
 #[test]

@@ -1,8 +1,9 @@
-//! A unit under demand 3: its memories, what it was handed, and the book that is told of each call and cut.
+//! A unit under demand 3: its memories, what it was handed, and the book that is told of each call and cut. It has the
+//! firmware of the keeper, or up to some cut the older one (document 02, A.2).
 
 use crate::book::{self, Book, Cut};
-use crate::compare::call;
-use crate::layout::{blank, half_of, read_ring, Reading};
+use crate::compare::{call, saw};
+use crate::layout::{blank, half_of, read_ring, Form, Reading, LARGEST_PACKET};
 use crate::operations::*;
 use crate::random::Random;
 
@@ -11,18 +12,21 @@ pub struct Setup {
     pub pages: usize,
     pub slots: usize,
     pub fram: usize,
+    /// The firmware that the unit begins with.
+    pub firmware: Form,
     pub seed: u64,
 }
 
 #[derive(Clone)]
 pub struct Unit {
+    pub firmware: Form,
     /// The memories, the key and the buffers, as the last call or cut left them.
     pub lent: Lent,
     pub book: Book,
     /// Every session handed out.
-    pub sessions: Vec<[u8; 40]>,
+    pub sessions: Vec<Vec<u8>>,
     /// The last jobs handed out.
-    pub jobs: Vec<[u8; 56]>,
+    pub jobs: Vec<Vec<u8>>,
     /// How many starts did not stop.
     starts: usize,
     nonces: Nonces,
@@ -52,6 +56,15 @@ impl Nonces {
         nonce[self.at + 1] ^= i as u8;
         nonce
     }
+}
+
+/// The packet number that a save brings, beside the entry's.
+#[derive(Clone, Copy, Debug, PartialEq)]
+pub enum Heard {
+    Same,
+    More(u32),
+    Less(u32),
+    Number(u32),
 }
 
 /// What a cut leaves of the store cut into. Document 01: the word any bytes, the page any bytes, "a record's slot the
@@ -102,7 +115,7 @@ pub fn check(holds: bool, words: impl FnOnce() -> String) -> Result<(), String> 
 }
 
 pub fn stopped(answer: u32) -> bool {
-    (1..=14).contains(&answer)
+    (1..=18).contains(&answer)
 }
 
 impl Unit {
@@ -118,7 +131,8 @@ impl Unit {
             key: key.clone(),
             nonce: vec![0; 12],
             starting_tag: random.bytes(16),
-            session: random.bytes(40),
+            session: random.bytes(session_length(setup.firmware)),
+            packet: 0,
             open_part: vec![],
             secret: vec![],
             staging: vec![],
@@ -131,7 +145,8 @@ impl Unit {
         };
         let nonces = Nonces::new(&mut random);
         let book = Book::new(&key, setup.slots);
-        let mut unit = Unit { lent, book, sessions: vec![], jobs: vec![], starts: 0, nonces, random };
+        let firmware = setup.firmware;
+        let mut unit = Unit { firmware, lent, book, sessions: vec![], jobs: vec![], starts: 0, nonces, random };
         unit.restarted();
         unit
     }
@@ -148,7 +163,26 @@ impl Unit {
 
     /// A session that was handed out, the last one or `back` before it; none at all is one of zeros.
     pub fn session(&self, back: usize) -> Vec<u8> {
-        self.sessions.iter().rev().nth(back).unwrap_or(&[0; 40]).to_vec()
+        self.sessions.iter().rev().nth(back).cloned().unwrap_or(vec![0; session_length(self.firmware)])
+    }
+
+    /// The packet number that is so heard.
+    pub fn packet(&self, heard: Heard) -> u32 {
+        let last = self.book.entry.as_ref().map_or(0, |entry| entry.packet);
+        match heard {
+            Heard::Same => last,
+            Heard::More(more) => last.saturating_add(more).min(LARGEST_PACKET),
+            Heard::Less(less) => last.saturating_sub(less),
+            Heard::Number(number) => number,
+        }
+    }
+
+    /// The call, by the unit's firmware: the keeper's, compared with the documents, or the older one's, worked out here.
+    fn call(&mut self, operation: Operation) -> Result<u32, String> {
+        match self.firmware {
+            Form::Older => Ok(perform(Form::Older, operation, &mut self.lent)),
+            Form::Longer => call(operation, &mut self.lent),
+        }
     }
 
     fn started(&mut self) {
@@ -157,54 +191,89 @@ impl Unit {
     }
 
     fn handed_out(&mut self) {
-        self.jobs.push(self.lent.job[..].try_into().unwrap());
+        self.jobs.push(self.lent.job.clone());
         if self.jobs.len() > 40 {
             self.jobs.remove(0);
         }
     }
 
-    pub fn first_save(&mut self, open_part: Vec<u8>, secret: Vec<u8>) -> Result<(), String> {
+    pub fn first_save(&mut self, heard: Heard, open_part: Vec<u8>, secret: Vec<u8>) -> Result<(), String> {
         self.lent.nonce = self.new_nonce();
         self.lent.starting_tag = self.random.bytes(16);
+        self.lent.packet = self.packet(heard);
         (self.lent.open_part, self.lent.secret) = (open_part, secret);
-        if !stopped(call(Operation::FirstSave, &mut self.lent)?) {
+        if !stopped(self.call(Operation::FirstSave)?) {
             let c = &self.lent;
-            self.book.first_save(&c.nonce, &c.starting_tag, &c.open_part, &c.secret);
+            self.book.first_save(self.firmware, &c.nonce, &c.starting_tag, c.packet, &c.open_part, &c.secret);
             self.started();
         }
         Ok(())
     }
 
-    pub fn save(&mut self, session_back: usize, open_part: Vec<u8>, secret: Vec<u8>) -> Result<(), String> {
+    pub fn save(
+        &mut self,
+        session_back: usize,
+        heard: Heard,
+        open_part: Vec<u8>,
+        secret: Vec<u8>,
+    ) -> Result<(), String> {
         self.lent.nonce = self.new_nonce();
-        self.lent.session = self.session(session_back);
+        let session = self.session(session_back);
+        let older = session.len() != session_length(self.firmware);
+        let buffer = std::mem::replace(&mut self.lent.session, session);
+        self.lent.packet = self.packet(heard);
         (self.lent.open_part, self.lent.secret) = (open_part, secret);
-        if !stopped(call(Operation::Save, &mut self.lent)?) {
+        let answer = self.call(Operation::Save)?;
+        if older {
+            check(stopped(answer), || format!("the session is the older firmware's, and a save answers {answer}"))?;
+            self.lent.session = buffer;
+            if answer == 8 {
+                saw("8 for a session of the older firmware");
+            }
+        }
+        if !stopped(answer) {
             let c = &self.lent;
-            self.book.save(&c.nonce, &c.open_part, &c.secret);
+            let entry = self.book.entry.as_ref().ok_or("a save that did not stop, and nothing was recorded")?;
+            if self.firmware == Form::Longer && entry.restarts > 0 {
+                saw(if c.packet > entry.packet { "restarts set to 0" } else { "restarts carried over" });
+            }
+            self.book.save(self.firmware, &c.nonce, c.packet, &c.open_part, &c.secret);
             self.started();
         }
         Ok(())
     }
 
-    /// Demand 3: "stop 6 exactly if nothing was recorded, and 13 exactly if 8 power-ups were recorded since the last
-    /// recorded first save or save". Otherwise the secret part of the entry is at the front of the state buffer.
+    /// Demand 3: "stop 6 exactly if nothing was recorded, and 13 exactly if 8 power-ups were recorded", counted by A.2
+    /// "since the last record that set restarts to 0"; "a resealing that outgrows the half gives 4, after 13, and the cut
+    /// rule then promises that 4 instead of resuming". Otherwise the secret part of the entry is at the front of the state
+    /// buffer.
     pub fn power_up(&mut self) -> Result<u32, String> {
         self.lent.nonce = self.new_nonce();
-        let answer = call(Operation::PowerUp, &mut self.lent)?;
-        match &self.book.entry {
-            None => check(answer == 6, || format!("nothing was recorded, and a power-up answers {answer}"))?,
-            Some(_) if self.book.power_ups == 8 => {
-                check(answer == 13, || format!("8 power-ups were recorded, and a power-up answers {answer}"))?
+        let answer = self.call(Operation::PowerUp)?;
+        let Some(entry) = &self.book.entry else {
+            check(answer == 6, || format!("nothing was recorded, and a power-up answers {answer}"))?;
+            return Ok(answer);
+        };
+        let outgrows = entry.length_in(self.firmware) > self.lent.fram.len() / 2;
+        let resealed = entry.form != self.firmware;
+        if self.book.power_ups == 8 {
+            check(answer == 13, || format!("8 power-ups were recorded, and a power-up answers {answer}"))?;
+            if resealed {
+                saw(if outgrows { "13 before the resealing's 4" } else { "13 for the older form" });
             }
-            Some(entry) => {
-                check(answer == DONE, || format!("a checkpoint was recorded, and a power-up answers {answer}"))?;
-                let length = self.lent.secret_len;
-                check(length == entry.secret.len(), || format!("the secret part's length is {length}"))?;
-                check(self.lent.state[..length] == entry.secret, || "another secret part in the state buffer".into())?;
-                self.book.power_up(&self.lent.nonce);
-                self.started();
+        } else if outgrows {
+            check(answer == 4, || format!("the entry outgrows its half, and a power-up answers {answer}"))?;
+            saw("4 for a resealing that outgrows the half");
+        } else {
+            check(answer == DONE, || format!("a checkpoint was recorded, and a power-up answers {answer}"))?;
+            let length = self.lent.secret_len;
+            check(length == entry.secret.len(), || format!("the secret part's length is {length}"))?;
+            check(self.lent.state[..length] == entry.secret, || "another secret part in the state buffer".into())?;
+            if resealed {
+                saw("the older form resealed");
             }
+            self.book.power_up(self.firmware, &self.lent.nonce);
+            self.started();
         }
         Ok(answer)
     }
@@ -213,7 +282,7 @@ impl Unit {
     /// session, every other 'going on'; where there are none it stops.
     pub fn advance(&mut self) -> Result<u32, String> {
         let had_stores = !self.book.to_come().is_empty();
-        let answer = call(Operation::Advance, &mut self.lent)?;
+        let answer = self.call(Operation::Advance)?;
         if !had_stores {
             check(stopped(answer), || format!("no store was to come, and an advance answers {answer}"))?;
             return Ok(answer);
@@ -227,7 +296,7 @@ impl Unit {
         let stores = self.book.to_come().len();
         check(answer == expected, || format!("{stores} stores are still to come, and an advance answers {answer}"))?;
         if answer != GOING_ON {
-            self.sessions.push(self.lent.session[..].try_into().unwrap());
+            self.sessions.push(self.lent.session.clone());
         }
         self.handed_out();
         Ok(answer)
@@ -235,7 +304,7 @@ impl Unit {
 
     /// Look stops with 6 exactly if nothing was recorded; otherwise it sees the entry.
     pub fn look(&mut self) -> Result<(), String> {
-        let answer = call(Operation::Look, &mut self.lent)?;
+        let answer = self.call(Operation::Look)?;
         let Some(entry) = &self.book.entry else {
             return check(answer == 6, || format!("nothing was recorded, and look answers {answer}"));
         };
@@ -258,7 +327,7 @@ impl Unit {
             return Ok(());
         };
         let c = &mut self.lent;
-        let job = Job::from_bytes(&c.job).ok_or("the job handed out last is none")?;
+        let job = Job::from_bytes(self.firmware, &c.job).ok_or("the job handed out last is none")?;
         let cut = match (to_come, next_store(&job, c.slots, c.fram.len())) {
             (book::Store::Word, Store::Word(word)) => {
                 let word = word.of(&mut c.fram);
@@ -286,15 +355,27 @@ impl Unit {
     /// "The job is gone", and with it what the buffers held; they may have other lengths now.
     fn restarted(&mut self) {
         let more = self.random.pick(&[0, 0, 1, 20]);
-        self.lent.job = self.random.bytes(56);
+        self.lent.job = self.random.bytes(job_length(self.firmware));
         self.lent.staging = self.random.bytes(self.lent.fram.len() / 2 + more);
         self.lent.state = self.random.bytes(4096 + more);
     }
 
-    /// Demand 3 at the end of the list: a power-up on copies of the memories, with a new nonce and other buffers.
+    /// A cut between two calls, and the keeper's firmware from there on: "up to some cut the list's calls may be those of
+    /// the older one, whose sessions are not used after it". A save that is given one of them is a refused call.
+    pub fn update(&mut self) {
+        self.firmware = Form::Longer;
+        self.lent.session = self.random.bytes(session_length(Form::Longer));
+        self.cut();
+    }
+
+    /// Demand 3 at the end of the list: a power-up of the keeper's on copies of the memories, with a new nonce and other
+    /// buffers. Look shows what the older firmware left.
     pub fn trial(&self) -> Result<(), String> {
         let mut unit = self.clone();
-        unit.restarted();
+        unit.update();
+        if self.firmware == Form::Older {
+            unit.look().map_err(|words| format!("a look at this point: {words}"))?;
+        }
         unit.power_up_to_the_end().map_err(|words| format!("a power-up at this point: {words}"))
     }
 
@@ -310,7 +391,7 @@ impl Unit {
         while !self.book.to_come().is_empty() {
             if self.random.chance(1, 8) {
                 self.lent.nonce = self.random.bytes(12);
-                let answer = call(Operation::FirstSave, &mut self.lent)?;
+                let answer = self.call(Operation::FirstSave)?;
                 check(stopped(answer), || format!("the ring is in use, and a first save answers {answer}"))?;
             }
             // It compares the answer with 'going on' and 'restored'.

@@ -19,8 +19,8 @@ returns c key e =
     let headed = opened .before .before .before .before in
     let start = headed .before .before .before .before .before .before .before in
     let a = start .args in
-    staged key (a .nonce .now) (a .staging .now) (a .«open» .now) (a .secret .now) (a .previous .now) (a .restarts) _ e (start .pre .3) _ _ _ _ _ _ _ refl refl
-    (headed .write-head .ensures) (opened .write-open .ensures) (encrypted .write-secret .ensures) (tagged .write-tag .ensures .0) (tagged .write-tag .ensures .1)
+    staged key (a .nonce .now) (a .staging .now) (a .«open» .now) (a .secret .now) (a .previous .now) (a .packet) (a .restarts) _ e (start .pre .4) _ _ _ _ _ _ _ refl refl
+    (headed .write-head .ensures) (opened .copy-at .ensures) (encrypted .write-secret .ensures) (tagged .write-tag .ensures .0) (tagged .write-tag .ensures .1)
 
 pub seal-spec : {M : Type 1} → statement M
 seal-spec =

@@ -1,47 +1,40 @@
 -- `checkpoint::staging::write_head` meets its contract. Assumes nothing.
-use mathlib.Core.Path.{_≡_, sym, ap, _∙_}
+use mathlib.Core.Path.{_≡_, ap, _∙_}
 use mathlib.Core.List.{List, _++_, append-assoc, append-nil}
-use Prim.Native.Nat.{ℕ, _-_, _≤_}
-use native.Mathlib.Omega.{arith}
-use borrow.Rule.Slice.PartMut.{putMid}
-use lib.ListN.{length, take, drop, length-append}
+use Prim.Native.Nat.{ℕ}
+use lib.ListN.{length}
 use borrow.Author.Needs.{needs}
+use Rattle.octets.specs.Limits.{tag-length}
 use Rattle.octets.specs.Octets.{put}
 use Rattle.octets.specs.Word.{word}
-use Rattle.octets.proofs.Laws.{length-put}
 use Rattle.octets.proofs.Numbers.{length-word}
-use Rattle.checkpoint.specs.Checkpoint.{words, head-words}
-use Rattle.octets.proofs.Lent.{lent, put-on}
+use Rattle.octets.proofs.Lent.{Front, front-on}
+use Rattle.checkpoint.specs.Checkpoint.{Longer, words, head-words}
 use Rattle.checkpoint.proofs.staging.write_head.Statement.{statement}
 use Rattle.checkpoint.proofs.staging.write_head.Tie as tie
 
--- three words and a tag, one after the other
-staged : (xs a b c d t : List ℕ) (x y z : ℕ) → length t ≡ 16 → 28 ≤ length xs
-    → a ≡ put xs 0 (word 1 x) → b ≡ put a 4 (word 2 y) → c ≡ put b 8 (word 3 z) → d ≡ put (take (length c - 12) (drop 12 c)) 0 t
-    → putMid 12 (length c - 12) c d ≡ put xs 0 (words (head-words x y z) ++ t)
+-- four words and a tag, one after the other
+staged : (xs a b c d e t : List ℕ) (p x y z : ℕ) → length t ≡ tag-length
+    → a ≡ put xs 0 (word 0 p) → b ≡ put a 4 (word 1 x) → c ≡ put b 8 (word 2 y) → d ≡ put c 12 (word 3 z) → e ≡ put d 16 t
+    → e ≡ put xs 0 (words (head-words Longer p x y z) ++ t)
 unfolding words
-staged xs a b c d t x y z l h e f g k =
-    let X = word 1 x in
-    let Y = word 2 y in
-    let Z = word 3 z in
-    let lx = length-word 1 x in
-    let ly = length-word 2 y in
-    let lz = length-word 3 z in
-    let lxy : length (X ++ Y) ≡ 8 = length-append X Y ∙ omega (arith, lx, ly) in
-    let lxyz : length (X ++ Y ++ Z) ≡ 12 = length-append (X ++ Y) Z ∙ omega (arith, lxy, lz) in
-    let two : b ≡ put xs 0 (X ++ Y) = f ∙ ap (λ (w : List ℕ). put w 4 Y) e ∙ put-on xs X Y 0 4 (omega (arith, lx)) (omega arith) in
-    let three : c ≡ put xs 0 (X ++ Y ++ Z) = g ∙ ap (λ (w : List ℕ). put w 8 Z) two ∙ put-on xs (X ++ Y) Z 0 8 (omega (arith, lxy)) (omega arith) in
-    let long : length c ≡ length xs = ap length three ∙ length-put xs 0 (X ++ Y ++ Z) (omega (arith, lxyz)) in
-    lent c t d 12 (length c - 12) (omega (arith, long)) (omega (arith, long)) k
-    ∙ ap (λ (w : List ℕ). put w 12 t) three ∙ put-on xs (X ++ Y ++ Z) t 0 12 (omega (arith, lxyz)) (omega arith)
-    ∙ ap (λ (w : List ℕ). put xs 0 (w ++ t)) (append-assoc X Y Z ∙ ap (λ (w : List ℕ). X ++ (Y ++ w)) (sym (append-nil Z)))
+staged xs a b c d e t p x y z l h₁ h₂ h₃ h₄ h₅ =
+    let one : Front xs a (word 0 p) 4 = record { written = h₁; long = length-word 0 p } in
+    let two = front-on (word 1 x) b 4 one h₂ (length-word 1 x) in
+    let three = front-on (word 2 y) c 4 two h₃ (length-word 2 y) in
+    let four = front-on (word 3 z) d 4 three h₄ (length-word 3 z) in
+    front-on t e tag-length four h₅ l .written ∙ ap (put xs 0) (simp (append-assoc, append-nil))
 
 returns : tie.Need-returns
 returns c =
-    let after = c .before .before .before .before .before .before in
-    let a = after .before .before .before .before .before .before .before .before .before .before .before .before .args in
-    staged (a .staging .now) _ _ _ _ (a .previous .now) (a .«open») (a .secret) (a .restarts) (search needs) (search needs)
-    (after .before .before .before .before .before .before .before .before .write-word .ensures) (after .before .before .before .before .write-word2 .ensures) (after .write-word3 .ensures) (c .before .before .copy .ensures)
+    let fourth = c .before .before .before .before .before .before in
+    let third = fourth .before .before .before .before in
+    let second = third .before .before .before .before in
+    let first = second .before .before .before .before in
+    let start = first .before .before .before .before in
+    let a = start .args in
+    staged (a .staging .now) _ _ _ _ _ (a .previous .now) (a .packet) (a .«open») (a .secret) (a .restarts) (start .pre .4)
+    (first .write-word .ensures) (second .write-word2 .ensures) (third .write-word3 .ensures) (fourth .write-word4 .ensures) (c .before .before .copy-at .ensures)
 
 pub write-head-spec : {M : Type 1} → statement M
 write-head-spec =
@@ -50,9 +43,7 @@ write-head-spec =
     (λ c κs. search needs)
     (λ c κs. search needs)
     (λ c κs. search needs)
-    (λ c. search needs)
-    (λ c. search needs)
-    (λ c. search needs)
+    (λ c κs. search needs)
     (λ c κs. search needs)
     (λ c. search needs)
     returns)

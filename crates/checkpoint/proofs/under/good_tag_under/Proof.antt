@@ -10,7 +10,7 @@ good-tag-requires : tie.Need-good-tag-requires
 good-tag-requires c κs =
     let start = c .before .before .before .before .before .before .before .before .before .before .before in
     let long = start .pre .0 in
-    ((c .before .before .before .before .before .before .before .round-table .ensures, omega arith, omega arith, c .before .before .before .hash-steps .ensures), start .pre .1, start .pre .2, start .pre .3, start .pre .4)
+    ((c .before .before .before .before .before .before .before .round-table .ensures, omega arith, omega arith, c .before .before .before .hash-steps .ensures), start .pre .1, start .pre .2, start .pre .3, start .pre .4, start .pre .5)
 
 returns : tie.Need-returns
 returns c =

@@ -17,6 +17,7 @@ seal-requires c κs =
       start .pre .4,
       start .pre .5,
       start .pre .6,
+      start .pre .7,
     )
 
 returns : tie.Need-returns

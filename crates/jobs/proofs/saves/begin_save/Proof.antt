@@ -13,7 +13,7 @@ use Rattle.jobs.proofs.saves.begin_save.Tie as tie
 seal-under-requires : tie.Need-seal-under-requires
 seal-under-requires c κs =
     let p = c .before .before .before .before .before .before .before .pre in
-    (p .0, p .1, search needs, p .2, p .3, p .4, p .5)
+    p
 
 returns : tie.Need-returns
 unfolding begin job-of put
@@ -21,7 +21,7 @@ returns c =
     let start = c .before .before .before .before .before .before .before .before .before .before .before in
     let a = start .args in
     let sealed = c .before .before .before .seal-under .ensures in
-    let long = sym (length-sealed (a .key .now) (checkpoint-of (a .«open» .now) (a .secret .now) 0 (a .previous .now) (a .nonce .now)) (start .pre .2)) in
+    let long = sym (length-sealed (a .key .now) (checkpoint-of (a .packet) (a .«open» .now) (a .secret .now) (a .restarts) (a .previous .now) (a .nonce .now)) (start .pre .4)) in
     λ i. record {
       answer = Begun;
       job = record {
@@ -33,6 +33,8 @@ returns c =
         slot = a .slot;
         nonce = c .twelve .ensures i;
         tag = sealed .0 i;
+        restarts = a .restarts;
+        packet = a .packet;
       };
       secret-length = 0;
       staging = sealed .1 i;

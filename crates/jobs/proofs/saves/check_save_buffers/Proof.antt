@@ -13,14 +13,14 @@ use Rattle.jobs.proofs.saves.check_save_buffers.Tie as tie
 returns : tie.Need-returns
 unfolding staging-wrong half-length
 returns c =
-    let start = c .before .before .before .before .before .before .before .before .before .before .before .before .before in
+    let start = c .before .before .before .before .before .before .before .before .before .before .before .before .before .before in
     let a = start .args in
-    buffers-tried (a .ring .now) (a .fram .now) (save-arguments (a .pages) (a .slots) (a .key .now) (a .nonce .now) (a .«open» .now) (a .secret .now) (a .staging .now)) _ _ _ _ _
-    (c .before .before .check-memories .ensures)
-    (λ i. c .before .before .before .before .before .key-wrong .ensures i || c .before .before .before .before .nonce-wrong .ensures i)
-    (λ i. c .before .before .before .parts-wrong .ensures i || ltb (length (a .staging .now)) (half-length (a .fram .now)))
-    (c .before .stop-if .ensures) (c .stop-if2 .ensures)
+    buffers-tried (a .ring .now) (a .fram .now) (save-arguments (a .pages) (a .slots) (a .key .now) (a .nonce .now) (a .packet) (a .«open» .now) (a .secret .now) (a .staging .now)) _ _ _ _ _ _
+    (c .before .before .before .check-memories .ensures)
+    (λ i. c .before .before .before .before .before .before .key-wrong .ensures i || c .before .before .before .before .before .nonce-wrong .ensures i)
+    (λ i. c .before .before .before .before .parts-wrong .ensures i || ltb (length (a .staging .now)) (half-length (a .fram .now)))
+    (c .before .before .stop-if .ensures) (c .before .stop-if2 .ensures) (c .stop-if3 .ensures)
 
 pub check-save-buffers-spec : {M : Type 1} → statement M
 check-save-buffers-spec =
-    tie.close (tie.spec (λ c κs. search needs) (λ c κs. search needs) (λ c κs. search needs) (λ c κs. search needs) (λ c κs. search needs) (λ c κs. search needs) returns)
+    tie.close (tie.spec (λ c κs. search needs) (λ c κs. search needs) (λ c κs. search needs) (λ c κs. search needs) (λ c κs. search needs) (λ c κs. search needs) (λ c κs. search needs) returns)

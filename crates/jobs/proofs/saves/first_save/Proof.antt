@@ -3,6 +3,7 @@ use mathlib.Core.Path.{_≡_, sym, ap, _∙_}
 use mathlib.Core.Option.{none}
 use borrow.Author.Needs.{needs}
 use Rattle.stops.specs.View.{check-number}
+use Rattle.checkpoint.specs.Checkpoint.{Longer}
 use Rattle.protocol.specs.Calls.{FirstSave}
 use Rattle.protocol.specs.Operations.{first-save-stop}
 use Rattle.jobs.specs.View.{save-arguments, first-saves}
@@ -16,17 +17,17 @@ start c = c .before .before .before .before .before .before .before .before .bef
 abbrev call : tie.After-first-save-check → FirstSave
 call c =
     let a = start c .args in
-    first-saves (save-arguments (a .pages) (a .slots) (a .key .now) (a .nonce .now) (a .«open» .now) (a .secret .now) (a .staging .now)) (a .starting-tag .now)
+    first-saves (save-arguments (a .pages) (a .slots) (a .key .now) (a .nonce .now) (a .packet) (a .«open» .now) (a .secret .now) (a .staging .now)) (a .starting-tag .now)
 
 passed : (c : tie.After-enum-told) → let checked = c .before .before in
-    first-save-stop (start checked .args .ring .now) (start checked .args .fram .now) (call checked) ≡ none
+    first-save-stop Longer (start checked .args .ring .now) (start checked .args .fram .now) (call checked) ≡ none
 passed c = sym (c .before .before .first-save-check .ensures) ∙ ap check-number (c .enum-told .given .1)
 
 begin-save-requires : tie.Need-begin-save-requires
 begin-save-requires c κs =
     let checked = c .before .before .before in
     let l = first-lengths (start checked .args .ring .now) (start checked .args .fram .now) (call checked) (passed (c .before)) in
-    (l .0 .key, l .0 .nonce, l .1, l .0 .open-part, l .0 .secret, l .0 .staging)
+    (l .0 .key, l .0 .nonce, l .0 .packet, search needs, l .1, l .0 .open-part, l .0 .secret, l .0 .staging)
 
 returns : tie.Need-returns
 returns c =

@@ -12,7 +12,7 @@ use Rattle.ring.proofs.NewestLaws.{newest-half-fits}
 use Rattle.protocol.specs.Calls.{Saves}
 use Rattle.jobs.specs.View.{view-session, save-arguments, saves}
 use Rattle.jobs.specs.Stages.{save-ring}
-use Rattle.jobs.proofs.SaveLaws.{Buffers, buffers-pass, ring-lines, on-ring, save-stops, save-begins}
+use Rattle.jobs.proofs.SaveLaws.{Buffers, buffers-pass, ring-lines, on-ring, restarts-fit, larger-fits, session-in-range, save-stops, save-begins}
 use Rattle.jobs.proofs.saves.save_on.Statement.{statement}
 use Rattle.jobs.proofs.saves.save_on.Tie as tie
 
@@ -22,7 +22,7 @@ start c = c .before .before .before .before .before .before .before .before
 abbrev call : tie.After-read-ring → Saves
 call c =
     let a = start c .args in
-    saves (save-arguments (a .pages) (a .slots) (a .key .now) (a .nonce .now) (a .«open» .now) (a .secret .now) (a .staging .now)) (a .session)
+    saves (save-arguments (a .pages) (a .slots) (a .key .now) (a .nonce .now) (a .packet) (a .«open» .now) (a .secret .now) (a .staging .now)) (a .session)
 
 buffers : (c : tie.After-read-ring) → Buffers (start c .args .ring .now) (start c .args .fram .now) (call c .arguments)
 buffers c = buffers-pass (start c .args .ring .now) (start c .args .fram .now) (call c .arguments) (start c .pre)
@@ -56,8 +56,19 @@ half-fits c =
 
 begin-save-requires : tie.Need-begin-save-requires
 begin-save-requires c κs =
-    let l = buffers (c .before .before .before .before .before .before .before .before .before .before) .lengths-right in
-    (l .key, l .nonce, search (needs, c .before .before .before .before .before .before .before .before .before .before .before .before .before .before .before .before .before .before .blocks, c .before .before .before .before .before .before .before .before .before .before .before .before .before .before .before .before .before .before .good), l .open-part, l .secret, l .staging)
+    let read = c .before .before .before .before .before .before .before .before .before .before .before .before in
+    let a = start read .args in
+    let l = buffers read .lengths-right in
+    let s = session-in-range (a .ring .now) (a .fram .now) (call read) (passed (c .before .before .before .before .before .before .before .before .before)) in (
+      l .key,
+      l .nonce,
+      rw (c .before .before .larger .ensures) (larger-fits _ _ (s .1) (l .packet)),
+      rw (c .before .before .before .save-restarts .ensures) (restarts-fit _ _ _ (s .0)),
+      search (needs, c .before .before .before .before .before .before .before .before .before .before .before .before .before .before .before .before .before .before .before .before .blocks, c .before .before .before .before .before .before .before .before .before .before .before .before .before .before .before .before .before .before .before .before .good),
+      l .open-part,
+      l .secret,
+      l .staging,
+    )
 
 returns : tie.Need-returns
 returns c =
@@ -68,13 +79,13 @@ returns c =
 
 returns-2 : tie.Need-returns-2
 returns-2 c =
-    let read = c .before .before .before .before .before .before .before .before .before .before .before .before .before in
+    let read = c .before .before .before .before .before .before .before .before .before .before .before .before .before .before .before in
     let a = start read .args in
     let n = read .read-ring .ensures .0 in
-    save-begins (a .ring .now) (a .fram .now) (call read) _ _ _ _
-    (ap (λ (h : ℕ). 1 - h) (c .before .before .before .before .before .before .before .before .half-named .ensures ∙ ap half-named (record-is (c .before .before .before .before .before .before .before .before .before))))
-    (c .before .before .before .before .before .before .before .target-page .ensures ∙ ap (target-page (a .pages) (a .slots)) n) (c .before .before .before .before .before .before .target-slot .ensures ∙ ap (target-slot (a .slots)) n)
-    (c .before .before .begin-save .ensures) (on-ring (a .ring .now) (a .fram .now) (call read) (start read .pre) ∙ passed (c .before .before .before .before .before .before .before .before .before .before))
+    save-begins (a .ring .now) (a .fram .now) (call read) _ _ _ _ _ _ (c .before .before .before .before .before .larger .ensures) (c .before .before .before .before .before .before .save-restarts .ensures)
+    (ap (λ (h : ℕ). 1 - h) (c .before .before .before .before .before .before .before .before .before .before .half-named .ensures ∙ ap half-named (record-is (c .before .before .before .before .before .before .before .before .before .before .before))))
+    (c .before .before .before .before .before .before .before .before .before .target-page .ensures ∙ ap (target-page (a .pages) (a .slots)) n) (c .before .before .before .before .before .before .before .before .target-slot .ensures ∙ ap (target-slot (a .slots)) n)
+    (c .before .before .begin-save .ensures) (on-ring (a .ring .now) (a .fram .now) (call read) (start read .pre) ∙ passed (c .before .before .before .before .before .before .before .before .before .before .before .before))
 
 pub save-on-spec : {M : Type 1} → statement M
 save-on-spec =
@@ -82,7 +93,7 @@ save-on-spec =
     (tie.spec
     (λ c κs.
     let a = c .before .before .before .before .before .before .before .args in
-    buffers-pass (a .ring .now) (a .fram .now) (save-arguments (a .pages) (a .slots) (a .key .now) (a .nonce .now) (a .«open» .now) (a .secret .now) (a .staging .now)) (c .before .before .before .before .before .before .before .pre) .ring-right)
+    buffers-pass (a .ring .now) (a .fram .now) (save-arguments (a .pages) (a .slots) (a .key .now) (a .nonce .now) (a .packet) (a .«open» .now) (a .secret .now) (a .staging .now)) (c .before .before .before .before .before .before .before .pre) .ring-right)
     (λ c κs. (buffers c .ring-right, c .read-ring .ensures .1))
     (λ c. search needs)
     (λ c κs. search needs)
@@ -92,7 +103,9 @@ save-on-spec =
     (λ c. half-fits c)
     (λ c κs. c .before .before .before .before .before .read-ring .ensures .1)
     (λ c κs. c .before .before .before .before .before .before .read-ring .ensures .1 .slot-in)
-    (λ c. search (needs, c .before .before .before .before .before .before .before .before .before .before .before .before .before .before .before .before .before .blocks, c .before .before .before .before .before .before .before .before .before .before .before .before .before .before .before .before .before .good))
+    (λ c κs. search needs)
+    (λ c κs. search needs)
+    (λ c. search (needs, c .before .before .before .before .before .before .before .before .before .before .before .before .before .before .before .before .before .before .before .blocks, c .before .before .before .before .before .before .before .before .before .before .before .before .before .before .before .before .before .before .before .good))
     begin-save-requires
     returns
     (λ c. search needs)

@@ -7,28 +7,31 @@ use Rattle.stops.specs.Stops.{first-of}
 use Rattle.stops.specs.View.{check-number}
 use Rattle.aes.specs.Cipher.{cipher, aes}
 use Rattle.keeper.specs.Stages.{half-lines}
-use Rattle.keeper.proofs.ResumeLaws.{stopped-not-none, half-tried, tag-passes, restarts-below}
+use Rattle.keeper.proofs.ResumeLaws.{stopped-not-none, half-tried, tag-passes, not-stopped, restarts-below}
 use Rattle.keeper.proofs.resuming.reseal_prepared.Statement.{statement}
 use Rattle.keeper.proofs.resuming.reseal_prepared.Tie as tie
 
-abbrev start : tie.After-stop-if2 → tie.Start
-start c = c .before .before .before .before .before .before .before .before .before
+abbrev start : tie.After-stop-if3 → tie.Start
+start c = c .before .before .before .before .before .before .before .before .before .before .before
 
-checked : (c : tie.After-stop-if2) (key : List ℕ) → (let a = start c .args in cipher (a .rounds) (a .keys .now) ≡ aes key)
-    → (let a = start c .args in check-number (c .stop-if2 .result) ≡ first-of (half-lines key (a .latest .now) (a .half .now)))
+checked : (c : tie.After-stop-if3) (key : List ℕ) → (let a = start c .args in cipher (a .rounds) (a .keys .now) ≡ aes key)
+    → (let a = start c .args in check-number (c .stop-if3 .result) ≡ first-of (half-lines key (a .latest .now) (a .half .now)))
 checked c key e =
     let a = start c .args in
-    half-tried key (a .latest .now) (a .half .now) _ _ _ _ (c .before .before .before .good-tag .ensures key e) (start c .pre .4 .restarts) (c .before .before .stop-if .ensures) (c .stop-if2 .ensures)
+    half-tried key (a .latest .now) (a .half .now) _ _ _ _ _ _ (c .before .before .before .before .before .good-tag .ensures key e) (start c .pre .4 .restarts) (c .before .outgrows .ensures)
+    (c .before .before .before .before .stop-if .ensures) (c .before .before .stop-if2 .ensures) (c .stop-if3 .ensures)
 
 good-tag-requires : tie.Need-good-tag-requires
-good-tag-requires c κs = let p = c .before .before .before .before .before .pre in (p .0, p .1, p .3, p .4 .open-part, p .4 .secret)
+good-tag-requires c κs = let p = c .before .before .before .before .before .pre in (p .0, p .1, p .3, p .4 .start, p .4 .open-part, p .4 .secret)
 
 reopen-requires : tie.Need-reopen-requires
 reopen-requires c κs =
     let s = start (c .before .before .before .before) in
     let p = s .pre in
     let told = ap check-number (c .before .before .enum-told .given .1) in
-    (p .0, p .1, p .2, p .3, p .4, restarts-below (s .args .half .now) _ (check-number (c .before .before .before .before .before .before .stop-if .result)) (p .3) (p .4 .restarts) (sym (c .before .before .before .before .stop-if2 .ensures) ∙ told), p .5, p .6)
+    let small = not-stopped _ 4 _ (sym (c .before .before .before .before .stop-if3 .ensures) ∙ told) in
+    let few = not-stopped (check-number (c .before .before .before .before .before .before .before .before .stop-if .result)) 13 _ (sym (c .before .before .before .before .before .before .stop-if2 .ensures) ∙ small .0) in
+    (p .0, p .1, p .2, p .3, p .4, restarts-below (s .args .half .now) _ (p .3) (p .4 .restarts) (few .1), sym (c .before .before .before .before .before .outgrows .ensures) ∙ small .1, p .5, p .6)
 
 returns : tie.Need-returns
 returns c key e =
@@ -46,6 +49,8 @@ reseal-prepared-spec =
     tie.close
     (tie.spec
     good-tag-requires
+    (λ c κs. search needs)
+    (λ c κs. search needs)
     (λ c κs. search needs)
     (λ c κs. search needs)
     (λ c. search needs)

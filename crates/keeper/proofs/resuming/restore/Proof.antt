@@ -3,6 +3,7 @@ use mathlib.Core.Path.{sym, ap, _∙_}
 use native.Mathlib.Omega.{arith}
 use borrow.Author.Needs.{needs}
 use Rattle.stops.specs.View.{check-number}
+use Rattle.checkpoint.specs.Half.{form-of}
 use Rattle.checkpoint.proofs.StoredLaws.{head-facts}
 use Rattle.jobs.specs.View.{view-phase}
 use Rattle.keeper.proofs.ResumeLaws.{restore-stops, restore-begins}
@@ -10,13 +11,18 @@ use Rattle.keeper.proofs.resuming.restore.Statement.{statement}
 use Rattle.keeper.proofs.resuming.restore.Tie as tie
 
 add-t23 : tie.Need-add-t23
-add-t23 c = let s = c .before .before .before .before .before .before .before .before .before .before .before .before .before .before .before .before .before in omega (arith, s .pre .4 .open-part, head-facts (s .args .half .now) (s .pre .3) .open-small)
+add-t23 c = let s = c .before .before .before .before .before .before .before .before .before .before .before .before .before .before .before .before .before in omega (arith, s .pre .4 .open-part, head-facts (form-of (s .args .half .now)) (s .args .half .now) (s .pre .3) .open-small)
 
 add-t24 : tie.Need-add-t24
 add-t24 c =
     let s = c .before .before .before .before .before .before .before .before .before .before .before .before .before .before .before .before .before .before in
-    let f = head-facts (s .args .half .now) (s .pre .3) in
+    let f = head-facts (form-of (s .args .half .now)) (s .args .half .now) (s .pre .3) in
     omega (arith, s .pre .4 .open-part, s .pre .4 .secret, f .open-small, f .secret-small)
+
+add-t26 : tie.Need-add-t26
+add-t26 c =
+    let s = c .before .before .before .before .before .before .before .before .before .before .before .before .before .before .before .before .before .before .before .before in
+    omega (arith, s .pre .4 .restarts, head-facts (form-of (s .args .half .now)) (s .args .half .now) (s .pre .3) .restarts-small)
 
 returns : tie.Need-returns
 returns c =
@@ -29,12 +35,12 @@ returns c =
 
 returns-2 : tie.Need-returns-2
 returns-2 c =
-    let s = c .before .before .before .before .before .before .before .before .before .before .before .before .before .before .before .before .before .before .before in
+    let s = c .before .before .before .before .before .before .before .before .before .before .before .before .before .before .before .before .before .before .before .before in
     let a = s .args in
-    let made = c .before .before .before .before .before .before .before .before .before .before .reseal .ensures in
-    let told = ap check-number (c .before .before .before .before .enum-told .given .1) in
-    restore-begins (a .key .now) (a .latest .now) (a .half .now) (a .nonce .now) (s .pre .3) _ (a .head .«open») (a .head .secret) (a .other) (a .page) (a .slot) (view-phase (a .phase)) _
-    (a .staging .now) _ (a .state .now) _ _ (sym (made .check) ∙ told) (s .pre .4 .open-part) (s .pre .4 .secret) (c .twelve .ensures) (made .begins told)
+    let made = c .before .before .before .before .before .before .before .before .before .before .before .reseal .ensures in
+    let told = ap check-number (c .before .before .before .before .before .enum-told .given .1) in
+    restore-begins (a .key .now) (a .latest .now) (a .half .now) (a .nonce .now) (s .pre .3) _ (a .head .packet) (a .head .«open») (a .head .secret) (a .head .restarts) (a .other) (a .page) (a .slot) (view-phase (a .phase)) _
+    (a .staging .now) _ (a .state .now) _ _ (sym (made .check) ∙ told) (s .pre .4 .packet) (s .pre .4 .open-part) (s .pre .4 .secret) (s .pre .4 .restarts) (c .before .twelve .ensures) (made .begins told)
 
 pub restore-spec : {M : Type 1} → statement M
 restore-spec =
@@ -47,6 +53,7 @@ restore-spec =
     add-t23
     add-t24
     (λ c κs. search needs)
+    add-t26
     (λ c. search needs)
     (λ c. search needs)
     returns

@@ -1,6 +1,7 @@
 -- `keeper::resuming::resume` meets its contract. Assumes nothing.
 use mathlib.Core.Path.{_≡_, sym, ap, _∙_}
 use mathlib.Core.Option.{none}
+use mathlib.Core.List.{List}
 use Prim.Native.Nat.{ℕ, _-_, _≤_}
 use native.Mathlib.Omega.{arith}
 use lib.ListN.{take}
@@ -12,10 +13,10 @@ use Rattle.ring.specs.Ring.{Newest, read-ring, newest-record, half-named, targe
 use Rattle.checkpoint.specs.Fram.{half-at}
 use Rattle.protocol.specs.Calls.{PowersUp}
 use Rattle.protocol.specs.Operations.{newest-half, first-phase}
-use Rattle.checkpoint.specs.Half.{good-head}
+use Rattle.checkpoint.specs.Half.{form-of, good-head}
 use Rattle.keeper.specs.View.{powers-up}
 use Rattle.keeper.specs.Stages.{power-up-ring}
-use Rattle.keeper.proofs.PowerUpLaws.{Buffers, buffers-pass, names-half, head-stop, on-half, power-up-stops, power-up-restores, half-long-enough, fits-staging}
+use Rattle.keeper.proofs.PowerUpLaws.{Buffers, buffers-pass, names-half, head-stop, on-half, power-up-stops, power-up-restores, half-long-enough}
 use Rattle.keeper.proofs.resuming.resume.Statement.{statement}
 use Rattle.keeper.proofs.resuming.resume.Tie as tie
 
@@ -74,8 +75,8 @@ restore-requires c κs =
       c .before .before .before .before .before .part .ensures .1,
       f .nonce,
       good,
-      record { open-part = read .1; secret = read .2; restarts = read .3 },
-      fits-staging (start found .args .fram .now) (c .before .before .before .before .before .before .before .before .half-at .result .now) (start found .args .staging .now) good (c .before .before .before .before .before .before .before .before .half-at .ensures .1) (f .staging),
+      record { start = read .1; packet = read .2; open-part = read .3; secret = read .4; restarts = read .5 },
+      omega (arith, c .before .before .before .before .before .before .before .before .half-at .ensures .1, f .staging),
       f .state,
     )
 
@@ -87,7 +88,7 @@ returns c =
     let a = s .args in
     let read = c .before .before .before .before .before .before .before .before .before .before .before .before .read-head .ensures in
     let half = half-is (c .before .before .before .before .before .before .before .before .before .before .before .before .before) in
-    let good = sym (ap good-head half) ∙ sym (read .0) ∙ c .before .before .before .before .before .before .before .before .before .before .before .if1 .taken in
+    let good = sym (ap (λ (h : List ℕ). good-head (form-of h) h) half) ∙ sym (read .0) ∙ c .before .before .before .before .before .before .before .before .before .before .before .if1 .taken in
     power-up-restores (a .ring .now) (a .fram .now) (call found) _ _ _ _ _ _ _
     (c .before .before .before .before .before .before .before .before .before .before .part .ensures .0 ∙ ap (take nonce-length) (record-is found)) half
     (c .before .before .before .before .before .before .before .before .before .first-phase .ensures ∙ ap first-phase (s .pre .1)) (ap (λ (h : ℕ). 1 - h) (number-is (c .before .before .before .before .before .before .before .before .before .before .before .before .before .before)))
@@ -100,7 +101,7 @@ returns-2 c =
     let s = start found in
     let a = s .args in
     let read = c .before .before .read-head .ensures in
-    let bad = sym (ap good-head (half-is (c .before .before .before))) ∙ sym (read .0) ∙ c .before .if1 .left in
+    let bad = sym (ap (λ (h : List ℕ). good-head (form-of h) h) (half-is (c .before .before .before))) ∙ sym (read .0) ∙ c .before .if1 .left in
     power-up-stops (a .ring .now) (a .fram .now) (call found) _ (c .not-resumed .ensures (a .staging .now) (a .state .now))
     (head-stop (a .ring .now) (a .fram .now) (call found) (s .pre .0) (passed found) bad)
 

@@ -5,7 +5,7 @@ use mathlib.Core.Option.{none, some}
 use mathlib.Core.List.{[], _∷_}
 use borrow.Author.Needs.{needs}
 use Rattle.stops.specs.Stops.{first-of, then-stop}
-use Rattle.checkpoint.specs.Half.{good-tag}
+use Rattle.checkpoint.specs.Half.{form-of, good-tag}
 use Rattle.look.proofs.looking.check_half.Statement.{statement}
 use Rattle.look.proofs.looking.check_half.Tie as tie
 
@@ -20,7 +20,7 @@ failed g t e = rw e
 good-tag-under-requires : tie.Need-good-tag-under-requires
 good-tag-under-requires c κs =
     let p = c .before .before .before .before .pre in
-    (p .0, p .1, sym (p .2) ∙ c .if1 .taken, p .3, p .4)
+    (p .0, p .1, sym (p .2) ∙ c .if1 .taken, p .3, p .4, p .5)
 
 returns : tie.Need-returns
 returns c =
@@ -31,7 +31,7 @@ returns-2 : tie.Need-returns-2
 returns-2 c =
     let start = c .before .before .before .before in
     let p = start .pre in
-    failed _ (good-tag (start .args .key .now) (start .args .nonce .now) (start .args .half .now)) (sym (p .2) ∙ c .if1 .left)
+    failed _ (good-tag (form-of (start .args .half .now)) (start .args .key .now) (start .args .nonce .now) (start .args .half .now)) (sym (p .2) ∙ c .if1 .left)
 
 pub check-half-spec : {M : Type 1} → statement M
 check-half-spec = tie.close (tie.spec good-tag-under-requires (λ c κs. search needs) returns returns-2)

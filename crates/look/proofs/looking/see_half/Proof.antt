@@ -13,8 +13,9 @@ use Rattle.stops.specs.View.{check-number}
 use Rattle.ring.specs.Ring.{half-named}
 use Rattle.checkpoint.specs.Checkpoint.{head-length}
 use Rattle.checkpoint.specs.Fram.{half-at, half-length}
-use Rattle.checkpoint.specs.Half.{open-length, stored-restarts}
+use Rattle.checkpoint.specs.Half.{form-of, open-length, stored-restarts}
 use Rattle.checkpoint.proofs.FramLaws.{fram-sizes, half-within}
+use Rattle.checkpoint.proofs.SealedLaws.{head-small}
 use Rattle.protocol.specs.Operations.{look-by, stretch-by}
 use Rattle.look.specs.declared.types.Looked.the-variants.{Restarts}
 use Rattle.look.specs.Stages.{of-half, look-half}
@@ -32,12 +33,12 @@ module _ (key newest fram : List ℕ) (h : ℕ) (x : h ≡ half-named newest) (h
   unfolding part
   checked o nonce n e = e ∙ (λ i. first-of (of-half key (n i) (half-is i)))
 
-  found : {o : Option ℕ} (n m : ℕ) → none ≡ o → n ≡ stored-restarts half → m ≡ open-length half
-      → Sees (record { looked = Restarts n; offset = h * half-length fram + head-length; length = m }) o fram (half-named newest)
+  found : {o : Option ℕ} (n at m : ℕ) → none ≡ o → n ≡ stored-restarts (form-of half) half → at ≡ head-length (form-of half) → m ≡ open-length (form-of half) half
+      → Sees (record { looked = Restarts n; offset = h * half-length fram + at; length = m }) o fram (half-named newest)
   unfolding look-by stretch-by
-  found n m e r l = record {
-    looked = λ i. look-by (e i) ((r ∙ ap stored-restarts half-is) i);
-    stretch = λ i. stretch-by (e i) (x i * half-length fram + head-length) ((l ∙ ap open-length half-is) i);
+  found n at m e r b l = record {
+    looked = λ i. look-by (e i) ((r ∙ ap (λ (l : List ℕ). stored-restarts (form-of l) l) half-is) i);
+    stretch = λ i. stretch-by (e i) (x i * half-length fram + (b ∙ ap (λ (l : List ℕ). head-length (form-of l)) half-is) i) ((l ∙ ap (λ (l : List ℕ). open-length (form-of l) l) half-is) i);
   }
 
 -- stops 11 and 12 as they were checked
@@ -65,9 +66,11 @@ mul-t14 c = let w = within (c .before .before .before .before .before .before) i
 add-t15 : tie.Need-add-t15
 unfolding half-length
 add-t15 c =
-    let w = within (c .before .before .before .before .before .before) in
-    let z = fram-sizes (c .before .before .before .before .before .before .before .before .before .before .args .fram .now) (c .before .before .before .before .before .before .before .before .before .before .pre .0) in
-    omega arith
+    let found = c .before .before .before .before .before .before .before in
+    let start = found .before .before .before .before in
+    let w = within found in
+    let z = fram-sizes (start .args .fram .now) (start .pre .0) in
+    omega (arith, c .before .before .before .before .before .read-head .ensures .1, head-small (form-of (c .before .before .before .before .before .before .half-at .result .now)))
 
 returns : tie.Need-returns
 returns c =
@@ -78,9 +81,9 @@ returns c =
 returns-2 : tie.Need-returns-2
 unfolding half-length
 returns-2 c =
-    let a = c .before .before .before .before .before .before .before .before .before .before .args in
-    let head = c .before .before .before .before .read-head .ensures in
-    found (a .key .now) (a .«record» .now) (a .fram .now) _ (c .before .before .before .before .before .before .half-named .ensures) _ (c .before .before .before .before .before .half-at .ensures .0) _ _ (sym (ap check-number (c .enum-told .given .1)) ∙ half-check (c .before .before)) (head .3) (head .1)
+    let a = c .before .before .before .before .before .before .before .before .before .before .before .args in
+    let head = c .before .before .before .before .before .read-head .ensures in
+    found (a .key .now) (a .«record» .now) (a .fram .now) _ (c .before .before .before .before .before .before .before .half-named .ensures) _ (c .before .before .before .before .before .before .half-at .ensures .0) _ _ _ (sym (ap check-number (c .before .enum-told .given .1)) ∙ half-check (c .before .before .before)) (head .5) (head .1) (head .3)
 
 pub see-half-spec : {M : Type 1} → statement M
 see-half-spec =

@@ -10,7 +10,7 @@ use Rattle.jobs.proofs.types.Session.save.Tie as tie
 returns : tie.Need-returns
 returns c =
     let a = c .before .before .before .before .before .before .before .before .before .before .before .before .before .args in
-    let call = saves (save-arguments (a .pages) (a .slots) (a .key .now) (a .nonce .now) (a .«open» .now) (a .secret .now) (a .staging .now)) (a .self) in
+    let call = saves (save-arguments (a .pages) (a .slots) (a .key .now) (a .nonce .now) (a .packet) (a .«open» .now) (a .secret .now) (a .staging .now)) (a .self) in
     save-stops (a .ring .now) (a .fram .now) call _ (c .not-begun .ensures (a .staging .now))
     (buffers-stop (a .ring .now) (a .fram .now) call (sym (c .before .before .before .before .check-save-buffers .ensures) ∙ ap check-number (c .before .before .check .given .1)))
 

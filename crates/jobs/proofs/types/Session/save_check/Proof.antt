@@ -19,7 +19,7 @@ start c = c .before .before .before .before .before .before .before .before
 abbrev call : tie.After-check-save-buffers → Saves
 call c =
     let a = start c .args in
-    saves (save-arguments (a .pages) (a .slots) (a .key .now) (a .nonce .now) (a .«open» .now) (a .secret .now) (a .staging .now)) (a .self)
+    saves (save-arguments (a .pages) (a .slots) (a .key .now) (a .nonce .now) (a .packet) (a .«open» .now) (a .secret .now) (a .staging .now)) (a .self)
 
 buffers-none : (c : tie.After-enum-told) → let b = c .before .before in first-of (save-buffers (start b .args .ring .now) (start b .args .fram .now) (call b .arguments)) ≡ none
 buffers-none c = sym (c .before .before .check-save-buffers .ensures) ∙ ap check-number (c .enum-told .given .1)
