@@ -10,8 +10,7 @@ use Rattle.octets.proofs.Laws.{part-append-left, part-append-right, part-whole,
 use Rattle.aes.specs.Cipher.{aes}
 use Rattle.gcm.specs.Gcm.{AE-text, AE-tag, encrypted, tag}
 use Rattle.gcm.proofs.Laws.{length-text}
-use Rattle.checkpoint.specs.Checkpoint.{Longer, Checkpoint, head-words, words, head-length, head, associated, own-tag, sealed}
-use Rattle.checkpoint.specs.Prepared.{checkpoint-of}
+use Rattle.checkpoint.specs.Checkpoint.{Longer, Checkpoint, head-words, words, head-length, head, associated, own-tag, sealed, checkpoint-of}
 use Rattle.checkpoint.proofs.SealedLaws.{length-head, length-associated}
 use Rattle.octets.proofs.Lent.{put-on}
 

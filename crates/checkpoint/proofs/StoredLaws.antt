@@ -8,7 +8,7 @@ use native.Mathlib.Omega.{arith}
 use lib.ListN.{length, take, drop, getD, take-append-drop}
 use lib.Seq.{take-add, drop-drop}
 use borrow.Author.Tests.{eqb-true, leb-true}
-use Rattle.octets.specs.Limits.{part-limit, restart-limit, tag-length}
+use Rattle.octets.specs.Limits.{part-limit, restart-limit, packet-limit, tag-length}
 use Rattle.octets.specs.Octets.{part, number, bytes}
 use Rattle.octets.specs.Word.{word, word-at, kind-of, value-of}
 use Rattle.octets.proofs.Laws.{and-true, same-equal, length-part}
@@ -78,6 +78,19 @@ words-again half b i (suc n) (w ∷ ws) l h e =
     (λ j. word-again half (4 * i) (w .0) (omega arith) b (eqb-true _ _ (k .0)) j ++ words-again half b (suc i) n ws (omega arith) (omega arith) (k .1) j)
     ∙ part-join half (4 * i) 4 (4 * suc i) (4 * n) m ∙ ap (λ (x : ℕ). part half (4 * i) x) t
 
+-- ---- packet numbers
+
+pub stored-packet-small : (form : Form) (half : List ℕ) → PacketInRange form (stored-packet form half)
+unfolding stored-packet value-at value-of
+stored-packet-small Older half = refl
+stored-packet-small Longer half = omega arith
+
+pub packet-small : (form : Form) (packet : ℕ) → PacketInRange form packet → packet ≤ packet-limit
+packet-small Older packet n = omega arith
+packet-small Longer packet n = n
+
+-- ---- what is stored
+
 module _ (form : Form) (key nonce half : List ℕ) (good : good-head form half ≡ true) where
   facts : GoodHead form half
   facts = head-facts form half good
@@ -97,11 +110,6 @@ module _ (form : Form) (key nonce half : List ℕ) (good : good-head form half �
   unfolding stored-previous
   length-previous = length-part half (words-length form) tag-length (omega (arith, facts .fits))
 
-  numbered : (f : Form) → PacketInRange f (stored-packet f half)
-  unfolding stored-packet value-at value-of
-  numbered Older = refl
-  numbered Longer = omega arith
-
   pub stored-in-range : InRange (stored form key nonce half)
   unfolding stored open-length secret-length
   stored-in-range = record {
@@ -110,7 +118,7 @@ module _ (form : Form) (key nonce half : List ℕ) (good : good-head form half �
     secret-whole = omega (arith, length-secret);
     secret-small = omega (arith, length-secret, facts .secret-small);
     restarts-small = facts .restarts-small;
-    packet-small = numbered form;
+    packet-small = stored-packet-small form half;
     previous-long = length-previous;
   }
 

@@ -23,6 +23,18 @@ pub record Checkpoint : Type 0 where
   pub previous : List ℕ
   pub nonce : List ℕ
 
+-- one of the longer form, which the code seals
+abbrev pub checkpoint-of : ℕ → (open-part secret : List ℕ) → ℕ → (previous nonce : List ℕ) → Checkpoint
+checkpoint-of packet open-part secret restarts previous nonce = record {
+  form = Longer;
+  packet = packet;
+  open-part = open-part;
+  secret = secret;
+  restarts = restarts;
+  previous = previous;
+  nonce = nonce;
+}
+
 -- ---- the head
 
 -- the words before the open part's length, each with its kind and value

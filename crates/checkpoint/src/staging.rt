@@ -15,8 +15,8 @@ ghost use Rattle.octets.specs.Word.{word};
 ghost use Rattle.aes.specs.Word.{RoundTable};
 ghost use Rattle.aes.specs.Cipher.{cipher, aes};
 ghost use Rattle.gcm.specs.Gcm.{AE-text, AE-tag};
-ghost use Rattle.checkpoint.specs.Checkpoint.{Longer, head-words, words, head-length, sealed-length, sealed, own-tag};
-ghost use Rattle.checkpoint.specs.Prepared.{Prepared, checkpoint-of};
+ghost use Rattle.checkpoint.specs.Checkpoint.{Longer, head-words, words, head-length, sealed-length, sealed, own-tag, checkpoint-of};
+ghost use Rattle.checkpoint.specs.Prepared.{Prepared};
 
 // A word of a kind and a value at offset i.
 fn write_word(staging: &mut [u8], i: usize, kind: u32, value: usize)

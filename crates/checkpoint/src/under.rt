@@ -12,9 +12,8 @@ ghost use Prim.Native.Nat.{_≤_};
 ghost use lib.ListN.{length};
 ghost use Rattle.octets.specs.Limits.{key-length, nonce-length, part-limit, restart-limit, packet-limit, tag-length};
 ghost use Rattle.octets.specs.Octets.{put};
-ghost use Rattle.checkpoint.specs.Checkpoint.{Longer, head-length, sealed-length, sealed, own-tag};
+ghost use Rattle.checkpoint.specs.Checkpoint.{Longer, head-length, sealed-length, sealed, own-tag, checkpoint-of};
 ghost use Rattle.checkpoint.specs.Half.{form-of, open-length, secret-length, good-head, good-tag};
-ghost use Rattle.checkpoint.specs.Prepared.{checkpoint-of};
 
 // Seals a checkpoint to the front of staging and answers its tag.
 pub fn seal_under(

@@ -1,7 +1,7 @@
 -- The stops of first save and save, stage by stage, and what they answer. Assumes nothing.
 use Prim.Native.Nat.{ℕ, _-_, _%_, _≤_}
 use mathlib.Core.Path.{_≡_, refl, ap, _∙_}
-use mathlib.Core.Bool.{Bool, true, false, not, cond, _||_}
+use mathlib.Core.Bool.{Bool, false, not, _||_}
 use mathlib.Core.Option.{Option, none, some}
 use mathlib.Core.List.{List, [], _∷_}
 use native.Mathlib.Omega.{arith}
@@ -13,9 +13,8 @@ use Rattle.octets.specs.Octets.{blank}
 use Rattle.stops.specs.Stops.{first-of, then-stop}
 use Rattle.stops.proofs.Laws.{tried, tried-first, first-append, one-more, passes, neither}
 use Rattle.ring.specs.Ring.{Newest, ring-wrong, read-ring, newest-record, half-named, target-page, target-slot}
-use Rattle.checkpoint.specs.Checkpoint.{Longer, Checkpoint, part-wrong, sealed-length}
+use Rattle.checkpoint.specs.Checkpoint.{Longer, Checkpoint, part-wrong, sealed-length, checkpoint-of}
 use Rattle.checkpoint.specs.Fram.{half-length}
-use Rattle.checkpoint.specs.Prepared.{checkpoint-of}
 use Rattle.memories.specs.Stages.{of-memories}
 use Rattle.protocol.specs.Types.{Words, Save}
 use Rattle.protocol.specs.Calls.{SaveArguments, FirstSave, Saves}
@@ -92,24 +91,6 @@ buffers-pass ring fram a e =
     let p = passes _ e in
     let n = neither (key-wrong (length (a .key))) (nonce-wrong (length (a .nonce))) (p .1 .1 .0) in
     record { ring-right = p .0; lengths-right = lengths fram a (n .0) (n .1) (p .1 .1 .1 .0) (p .1 .1 .1 .1 .0) }
-
--- ---- the restarts and the packet number that a save stores are in range where those that it is given are
-
-pub restarts-fit : (heard packet restarts : ℕ) → restarts ≤ restart-limit → save-restarts Longer heard packet restarts ≤ restart-limit
-unfolding save-restarts
-restarts-fit heard packet restarts l = go (ltb packet heard)
-  where
-    go : (b : Bool) → cond b 0 restarts ≤ restart-limit
-    go true = omega arith
-    go false = l
-
-pub larger-fits : (m n : ℕ) → m ≤ packet-limit → n ≤ packet-limit → larger m n ≤ packet-limit
-unfolding larger
-larger-fits m n l k = go (ltb m n)
-  where
-    go : (b : Bool) → cond b n m ≤ packet-limit
-    go true = k
-    go false = l
 
 -- ---- what first save answers
 

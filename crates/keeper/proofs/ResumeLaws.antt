@@ -8,16 +8,15 @@ use lib.Dec.{eqb}
 use borrow.Author.Tests.{eqb-false, ltb-false, not-false}
 use native.Mathlib.Omega.{arith}
 use lib.ListN.{length, getD}
-use Rattle.octets.specs.Limits.{part-limit, restart-limit, packet-limit, tag-length}
+use Rattle.octets.specs.Limits.{part-limit, restart-limit, tag-length}
 use Rattle.octets.specs.Octets.{part, put}
 use Rattle.octets.specs.Word.{value-of}
 use Rattle.octets.proofs.Laws.{part-put-same}
 use Rattle.stops.specs.Stops.{first-of, then-stop}
 use Rattle.stops.proofs.Laws.{tried, first-append, no-lines, one-more, passes}
 use Rattle.gcm.proofs.Laws.{length-encrypted}
-use Rattle.checkpoint.specs.Checkpoint.{Form, Older, Longer, Checkpoint, head-length, own-tag, sealed, sealed-length}
+use Rattle.checkpoint.specs.Checkpoint.{Longer, Checkpoint, head-length, own-tag, sealed, sealed-length, checkpoint-of}
 use Rattle.checkpoint.specs.Half.{value-at, form-of, stored-packet, open-length, secret-length, stored-restarts, stored-open, stored-cipher, stored-tag, good-head, good-tag, stored}
-use Rattle.checkpoint.specs.Prepared.{checkpoint-of}
 use Rattle.checkpoint.proofs.StoredLaws.{head-facts, length-cipher, length-open, length-secret, tag-again}
 use Rattle.checkpoint.proofs.SealedLaws.{length-sealed, length-own-tag}
 use Rattle.protocol.specs.Types.{Phase, PowerUp, Begun, Job}
@@ -99,12 +98,6 @@ longer-fits half e = ltb-false (length half) (sealed-length Longer (open-length 
 pub lengths-fit : (half : List ℕ) → (open-length (form-of half) half < 2 ^ 32) × (secret-length (form-of half) half < 2 ^ 32)
 unfolding open-length secret-length value-at value-of
 lengths-fit half = (omega arith, omega arith)
-
--- a stored packet number is in range
-pub packet-fits : (form : Form) (half : List ℕ) → stored-packet form half ≤ packet-limit
-unfolding stored-packet value-at value-of
-packet-fits Older half = omega arith
-packet-fits Longer half = omega arith
 
 -- ---- what a power-up answers behind a good head
 

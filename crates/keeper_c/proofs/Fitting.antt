@@ -22,11 +22,11 @@ use Rattle.checkpoint.specs.Half.{form-of, stored-packet, good-head, stored}
 use Rattle.checkpoint.specs.Layout.{PacketInRange}
 use Rattle.checkpoint.proofs.FramLaws.{half-sizes}
 use Rattle.checkpoint.proofs.SealedLaws.{head-small, length-own-tag, length-sealed}
-use Rattle.checkpoint.proofs.StoredLaws.{stored-in-range}
+use Rattle.checkpoint.proofs.StoredLaws.{packet-small, stored-in-range}
 use Rattle.protocol.specs.Types.{Phase, EraseFirst, Words, Record, EraseAfter, Done, Origin, Job, Session}
 use Rattle.protocol.specs.Calls.{Sizes, SaveArguments, FirstSave, Saves, PowersUp, Advances}
 use Rattle.protocol.specs.Operations.{key-wrong, nonce-wrong, stale, session-wrong, newest-in, written-number, larger, save-restarts, no-job, begin, job-of, first-checkpoint, save-checkpoint, resumed, first-phase, first-save-stop, first-save, save-stop, save, newest-half, newest-checkpoint, power-up-stop, power-up, no-session, job-record, session-of, in-phase, Moved, going-on, ended, recorded, erase-follows, after-record, store, advance-stop, advance-by, advance}
-use Rattle.protocol.proofs.FirstSaves.{numbered, packet-in-range}
+use Rattle.protocol.proofs.FirstSaves.{numbered}
 use Rattle.protocol.proofs.Saves.{save-numbered, save-few}
 use Rattle.jobs.proofs.AdvanceLaws.{Ready, ready, word-ready}
 use Rattle.jobs.proofs.SaveLaws.{lengths, first-lengths}
@@ -43,7 +43,7 @@ either P false x y p q = q refl
 -- ---- restarts and packet numbers
 
 small : (form : Form) (packet : ℕ) → PacketInRange form packet → packet < 2 ^ 32
-small form packet n = omega (arith, packet-in-range form packet n)
+small form packet n = omega (arith, packet-small form packet n)
 
 few : (form : Form) (packet : ℕ) (z : Session) → session-wrong form z ≡ false → save-restarts form packet (z .packet) (z .restarts) < 2 ^ 32
 few form packet z e = omega (arith, save-few form packet z e)

@@ -1,5 +1,5 @@
 -- The invariant after a first save.
-use Prim.Native.Nat.{ℕ, _+_, _≤_}
+use Prim.Native.Nat.{ℕ, _+_}
 use mathlib.Core.Path.{_≡_, refl, sym, ap, subst, _∙_}
 use mathlib.Core.Bool.{Bool, true, false, _||_}
 use mathlib.Core.Logic.{inl, inr}
@@ -56,10 +56,6 @@ pub numbered : (form : Form) (packet : ℕ) → packet-wrong form packet ≡ fal
 unfolding packet-wrong written-number
 numbered Older packet e = refl
 numbered Longer packet e = ltb-false packet-limit packet e
-
-pub packet-in-range : (form : Form) (packet : ℕ) → PacketInRange form packet → packet ≤ packet-limit
-packet-in-range Older packet n = omega arith
-packet-in-range Longer packet n = n
 
 -- a ring that is blank has nothing recorded
 blank-untouched : (u : Setup) (s : State) → Holds u s → blank (s .ring) ≡ true

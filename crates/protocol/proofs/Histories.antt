@@ -20,6 +20,7 @@ use Rattle.ring.specs.Ring.{ring-wrong, At, AtPending, page-before, read-ring, 
 use Rattle.ring.proofs.RingLaws.{page-of, slot-of}
 use Rattle.ring.proofs.FoundLaws.{found, not-blank, not-unreadable, pending-is}
 use Rattle.checkpoint.proofs.SealedLaws.{empty-passes}
+use Rattle.checkpoint.proofs.StoredLaws.{packet-small}
 use Rattle.checkpoint.specs.Fram.{fram-wrong, half-length}
 use Rattle.checkpoint.specs.Checkpoint.{Form, Older, Longer, Checkpoint, sealed, empty-length, sealed-length}
 use Rattle.checkpoint.proofs.FramLaws.{half-sizes, half-kept}
@@ -33,7 +34,7 @@ use Rattle.protocol.specs.Histories.{smallest, bench-state, but-the-last
 use Rattle.protocol.proofs.Facts.{no-fact}
 use Rattle.protocol.proofs.Invariant.{half-of, session-in, Holds, Ended}
 use Rattle.protocol.proofs.Reading.{reads, record-found, new-nonce}
-use Rattle.protocol.proofs.FirstSaves.{packet-in-range, first-begun, first-step}
+use Rattle.protocol.proofs.FirstSaves.{first-begun, first-step}
 use Rattle.protocol.proofs.Saves.{saving-job, save-begun, save-step}
 use Rattle.protocol.proofs.PowerUps.{Entry, resuming-job, resuming-holds, step-is}
 use Rattle.protocol.proofs.Lists.{hold-fresh}
@@ -263,7 +264,7 @@ module _ (u : Setup) (key-long : length (u .key) ≡ key-length) (s : State) (n 
         not-blank (s .journal .owed) (u .sizes .pages) (u .sizes .slots) (s .journal .count),
         not-unreadable (s .journal .owed) (u .sizes .pages) (u .sizes .slots) (s .journal .count),
         not-stale,
-        session-passes (s .form) session-here (x .standing .entry .good .range .restarts-small) (packet-in-range (x .standing .c .form) (x .standing .c .packet) (x .standing .entry .good .range .packet-small)),
+        session-passes (s .form) session-here (x .standing .entry .good .range .restarts-small) (packet-small (x .standing .c .form) (x .standing .c .packet) (x .standing .entry .good .range .packet-small)),
         pending-is (s .journal .owed) (u .sizes .pages) (u .sizes .slots) (s .journal .count) ∙ x .ended .owed,
         new-nonce (inv .fram-right) r (bytes nonce-length n) (new-here u key-long s n k (x .standing) h),
       )

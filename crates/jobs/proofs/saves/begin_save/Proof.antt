@@ -3,7 +3,7 @@ use mathlib.Core.Path.{sym}
 use mathlib.Core.List.{[]}
 use borrow.Author.Needs.{needs}
 use Rattle.octets.specs.Octets.{put}
-use Rattle.checkpoint.specs.Prepared.{checkpoint-of}
+use Rattle.checkpoint.specs.Checkpoint.{checkpoint-of}
 use Rattle.checkpoint.proofs.SealedLaws.{length-sealed}
 use Rattle.protocol.specs.Types.{Words, Save, Begun}
 use Rattle.protocol.specs.Operations.{begin, job-of}

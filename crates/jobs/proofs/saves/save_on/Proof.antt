@@ -4,15 +4,18 @@ use mathlib.Core.Option.{none}
 use Prim.Native.Nat.{ℕ, _-_, _≤_}
 use native.Mathlib.Omega.{arith}
 use borrow.Author.Needs.{needs}
+use Rattle.octets.specs.Limits.{packet-limit}
 use Rattle.stops.specs.Stops.{first-of}
 use Rattle.stops.specs.View.{check-number}
 use Rattle.stops.proofs.Laws.{passes}
 use Rattle.ring.specs.Ring.{Newest, read-ring, newest-record, half-named, target-page, target-slot}
 use Rattle.ring.proofs.NewestLaws.{newest-half-fits}
+use Rattle.checkpoint.specs.Checkpoint.{Longer}
 use Rattle.protocol.specs.Calls.{Saves}
 use Rattle.jobs.specs.View.{view-session, save-arguments, saves}
 use Rattle.jobs.specs.Stages.{save-ring}
-use Rattle.jobs.proofs.SaveLaws.{Buffers, buffers-pass, ring-lines, on-ring, restarts-fit, larger-fits, session-in-range, save-stops, save-begins}
+use Rattle.protocol.proofs.Saves.{larger-small, restarts-small}
+use Rattle.jobs.proofs.SaveLaws.{Buffers, buffers-pass, ring-lines, on-ring, session-in-range, save-stops, save-begins}
 use Rattle.jobs.proofs.saves.save_on.Statement.{statement}
 use Rattle.jobs.proofs.saves.save_on.Tie as tie
 
@@ -62,8 +65,8 @@ begin-save-requires c κs =
     let s = session-in-range (a .ring .now) (a .fram .now) (call read) (passed (c .before .before .before .before .before .before .before .before .before)) in (
       l .key,
       l .nonce,
-      rw (c .before .before .larger .ensures) (larger-fits _ _ (s .1) (l .packet)),
-      rw (c .before .before .before .save-restarts .ensures) (restarts-fit _ _ _ (s .0)),
+      rw (c .before .before .larger .ensures) (larger-small _ _ packet-limit (s .1) (l .packet)),
+      rw (c .before .before .before .save-restarts .ensures) (restarts-small Longer _ _ _ (λ e. s .0)),
       search (needs, c .before .before .before .before .before .before .before .before .before .before .before .before .before .before .before .before .before .before .before .before .blocks, c .before .before .before .before .before .before .before .before .before .before .before .before .before .before .before .before .before .before .before .before .good),
       l .open-part,
       l .secret,

@@ -2,9 +2,9 @@
 use native.Mathlib.Omega.{arith}
 use borrow.Author.Needs.{needs}
 use Rattle.checkpoint.specs.Half.{form-of}
-use Rattle.checkpoint.proofs.StoredLaws.{GoodHead, head-facts}
+use Rattle.checkpoint.proofs.StoredLaws.{GoodHead, head-facts, stored-packet-small, packet-small}
 use Rattle.checkpoint.proofs.SealedLaws.{head-small}
-use Rattle.keeper.proofs.ResumeLaws.{reseals, longer-fits, packet-fits}
+use Rattle.keeper.proofs.ResumeLaws.{reseals, longer-fits}
 use Rattle.keeper.proofs.resuming.reopen.Statement.{statement}
 use Rattle.keeper.proofs.resuming.reopen.Tie as tie
 
@@ -49,7 +49,7 @@ seal-requires c κs =
     let s = c .before .part2 .ensures .1 in (
       p .0,
       p .2,
-      omega (arith, head .packet, packet-fits (form-of (start .args .half .now)) (start .args .half .now)),
+      omega (arith, head .packet, packet-small (form-of (start .args .half .now)) _ (stored-packet-small (form-of (start .args .half .now)) (start .args .half .now))),
       omega (arith, p .5),
       c .before .before .before .before .part .ensures .1,
       omega (arith, o, head .open-part, f .open-small),
