@@ -827,10 +827,8 @@ updated-in-erase = record {
   erases-first = power-up-erases t x (updated-owed smallest s ∙ lost-owed Older Longer older-room);
   allowed = allowed-updated smallest (interrupted Older Longer) (up t x longer ++ saves-on smallest 4 1 (run smallest t (up t x longer))) (bench-state Older Longer)
       (interrupted-allowed Older Longer older-room) (row .passed .allowed);
-  newest = (
-    ap (λ (y : State). read-ring (y .ring) pages-least slots-least) is ∙ fifth-place (run smallest t events) (row .after),
-    ap (λ (y : State). y .journal .power-ups) is ∙ row .after .standing .entry .restarts-are ∙ row .after .standing .restarts,
-  );
+  newest = ap (λ (y : State). read-ring (y .ring) pages-least slots-least) is ∙ fifth-place (run smallest t events) (row .after);
+  power-ups = ap (λ (y : State). y .journal .power-ups) is ∙ row .after .standing .entry .restarts-are ∙ row .after .standing .restarts;
 }
   where
     s : State

@@ -54,15 +54,10 @@ erasing u t h c origin e Done d = absurd (let z = same-stores _ _ _ e (d .1) ∙
 
 -- ---- the power fails in it
 
-broken-nonces : (u : Setup) (s : State) (o : Option Handed) (left : List ℕ) (j : Journal) → broken u s o left j .nonces ≡ s .nonces
+broken-keeps : (u : Setup) (s : State) (o : Option Handed) (left : List ℕ) (j : Journal) → (broken u s o left j .nonces ≡ s .nonces) × (broken u s o left j .form ≡ s .form)
 unfolding broken
-broken-nonces u s none left j = refl
-broken-nonces u s (some h) left j = refl
-
-broken-form : (u : Setup) (s : State) (o : Option Handed) (left : List ℕ) (j : Journal) → broken u s o left j .form ≡ s .form
-unfolding broken
-broken-form u s none left j = refl
-broken-form u s (some h) left j = refl
+broken-keeps u s none left j = (refl, refl)
+broken-keeps u s (some h) left j = (refl, refl)
 
 -- an erase leaves the FRAM as it is
 erase-fram : (u : Setup) (s : State) (h : Handed) (left : List ℕ) (j : Journal) (p : ℕ) → h .job .phase ≡ EraseAfter p → broken u s (some h) left j .fram ≡ s .fram
@@ -97,13 +92,9 @@ module _ (u : Setup) (t : State) (c : Checkpoint) (origin : Origin) (h : Handed)
   unfolding entered
   loss-journal = blind u t (lost-in-store left) ∙ lost-erase (t .journal) c origin [] left d (at-erase .2 .owed)
 
-  loss-nonces : step u t (lost-in-store left) .nonces ≡ t .nonces
+  loss-keeps-both : (step u t (lost-in-store left) .nonces ≡ t .nonces) × (step u t (lost-in-store left) .form ≡ t .form)
   unfolding step left-by
-  loss-nonces = broken-nonces u t (t .handed) left _
-
-  loss-form : step u t (lost-in-store left) .form ≡ t .form
-  unfolding step left-by
-  loss-form = broken-form u t (t .handed) left _
+  loss-keeps-both = broken-keeps u t (t .handed) left _
 
   loss-fram : step u t (lost-in-store left) .fram ≡ t .fram
   unfolding step left-by
@@ -118,8 +109,8 @@ module _ (u : Setup) (t : State) (c : Checkpoint) (origin : Origin) (h : Handed)
     entry = ap (λ (j : Journal). j .entry) loss-journal ∙ entry-here;
     owed = ap (λ (j : Journal). j .owed) loss-journal ∙ ap not b;
     count = ap (λ (j : Journal). j .count) loss-journal ∙ n;
-    nonces = loss-nonces ∙ m;
-    form = loss-form ∙ o;
+    nonces = loss-keeps-both .0 ∙ m;
+    form = loss-keeps-both .1 ∙ o;
     fram-long = ap (λ (l : List ℕ). length l) loss-fram ∙ r;
   }
 

@@ -26,34 +26,19 @@ use Rattle.protocol.proofs.Blind.{blind}
 
 -- ---- what one advance leaves
 
-moved-nonces : (s : State) (x : Progress) (m : Moved) (staging : List ℕ) (j : Journal) → moved s x m staging j .nonces ≡ s .nonces
+-- the nonces and the firmware's form stay, and the FRAM is what the advance left
+moved-keeps : (s : State) (x : Progress) (m : Moved) (staging : List ℕ) (j : Journal)
+    → (moved s x m staging j .nonces ≡ s .nonces) × (moved s x m staging j .form ≡ s .form) × (moved s x m staging j .fram ≡ m .fram)
 unfolding moved
-moved-nonces s GoingOn m staging j = refl
-moved-nonces s Saved m staging j = refl
-moved-nonces s Restored m staging j = refl
-moved-nonces s (Refused y) m staging j = refl
+moved-keeps s GoingOn m staging j = (refl, refl, refl)
+moved-keeps s Saved m staging j = (refl, refl, refl)
+moved-keeps s Restored m staging j = (refl, refl, refl)
+moved-keeps s (Refused y) m staging j = (refl, refl, refl)
 
-advance-nonces : (u : Setup) (s : State) (a : Advances) → step u s (advanced-by a) .nonces ≡ s .nonces
+advance-keeps : (u : Setup) (s : State) (a : Advances)
+    → (step u s (advanced-by a) .nonces ≡ s .nonces) × (step u s (advanced-by a) .form ≡ s .form) × (step u s (advanced-by a) .fram ≡ advance (s .form) (s .ring) (s .fram) a .fram)
 unfolding step left-by
-advance-nonces u s a = moved-nonces s _ _ _ _
-
-moved-form : (s : State) (x : Progress) (m : Moved) (staging : List ℕ) (j : Journal) → moved s x m staging j .form ≡ s .form
-unfolding moved
-moved-form s GoingOn m staging j = refl
-moved-form s Saved m staging j = refl
-moved-form s Restored m staging j = refl
-moved-form s (Refused y) m staging j = refl
-
-advance-form : (u : Setup) (s : State) (a : Advances) → step u s (advanced-by a) .form ≡ s .form
-unfolding step left-by
-advance-form u s a = moved-form s _ _ _ _
-
-moved-fram : (s : State) (x : Progress) (m : Moved) (staging : List ℕ) (j : Journal) → moved s x m staging j .fram ≡ m .fram
-unfolding moved
-moved-fram s GoingOn m staging j = refl
-moved-fram s Saved m staging j = refl
-moved-fram s Restored m staging j = refl
-moved-fram s (Refused y) m staging j = refl
+advance-keeps u s a = moved-keeps s _ _ _ _
 
 -- the FRAM keeps its length
 module _ (u : Setup) (s : State) (h : Handed) (inv : Holds u s) where
@@ -71,8 +56,8 @@ module _ (u : Setup) (s : State) (h : Handed) (inv : Holds u s) where
   advance-kept none d = store-kept (h .job .phase) d
 
   fram-long : s .handed ≡ some h → length (step u s (advanced-by (call u h)) .fram) ≡ length (s .fram)
-  unfolding step left-by advance
-  fram-long e = ap (λ (l : List ℕ). length l) (moved-fram s _ _ _ _) ∙ advance-kept (advance-stop (s .form) (s .ring) (s .fram) (call u h)) (inv .doing h e)
+  unfolding advance
+  fram-long e = ap (λ (l : List ℕ). length l) (advance-keeps u s (call u h) .2) ∙ advance-kept (advance-stop (s .form) (s .ring) (s .fram) (call u h)) (inv .doing h e)
 
 advance-journal : (u : Setup) (s : State) (a : Advances) → refused s (advanced-by a) ≡ false
     → step u s (advanced-by a) .journal ≡ advanced (s .journal) (s .journal .draft)
@@ -126,8 +111,8 @@ module _ (u : Setup) (c : Checkpoint) (origin : Origin) (rest : List Store) wher
         ended = more .ended;
         count = more .count ∙ ap (λ (k : Journal). k .count + records-in first) j
             ∙ made-count (t .journal) (draft-of c origin (x ∷ (first ++ rest))) x first (first ++ rest);
-        nonces = more .nonces ∙ advance-nonces u t (call u h);
-        form = more .form ∙ advance-form u t (call u h);
+        nonces = more .nonces ∙ advance-keeps u t (call u h) .0;
+        form = more .form ∙ advance-keeps u t (call u h) .1;
         fram-long = more .fram-long ∙ fram-long u t h inv e;
       }
 

@@ -105,8 +105,9 @@ repeats u s k = let first = to-its-end u s (first-saved (numbered-first u 0)) in
 unfoldable pub StaleRepeats : Type 0
 StaleRepeats =
     (u : Setup) (ring fram : List ℕ) → blank ring ≡ true → Fits u ring fram → empty-length Longer ≤ half-length fram → (k : ℕ) → k ≤ restart-limit
-    → Allowed u (fresh Longer ring fram) (repeats u (fresh Longer ring fram) k) × (run u (fresh Longer ring fram) (repeats u (fresh Longer ring fram) k) .journal .power-ups ≡ k)
-    × (run u (fresh Longer ring fram) (repeats u (fresh Longer ring fram) k) .journal .count ≡ 2 * k + 1)
+    → let events = repeats u (fresh Longer ring fram) k in
+    let s = run u (fresh Longer ring fram) events in
+    Allowed u (fresh Longer ring fram) events × (s .journal .power-ups ≡ k) × (s .journal .count ≡ 2 * k + 1)
 
 -- ---- a newer packet
 
@@ -152,7 +153,7 @@ smallest = record { sizes = sizes pages-least slots-least; key = replicate key-l
 abbrev pub bench-fram : Form → List ℕ
 bench-fram room = replicate (2 * empty-length room) 0
 
--- firmware of a form with a blank ring of 6 slots, and a FRAM that has room for another form
+-- firmware of a form with a blank ring of 6 slots and a FRAM that holds checkpoints of the form `room`
 unfoldable pub bench-state : Form → Form → State
 bench-state form room = fresh form (erased (slot-length * 6)) (bench-fram room)
 
@@ -182,20 +183,22 @@ Examples =
     (form : Form) → Reached smallest (bench-state form form) (history smallest (bench-state form form) 0 restart-limit) 0 restart-limit
     × Reached smallest (bench-state form form) (history smallest (bench-state form form) 6 0) 6 0 × Interrupted form form
 
--- older firmware whose power failed in the erase, and which was updated then: the power-up erases first and seals anew in the longer form, and a save follows
+-- older firmware whose power failed in the erase, and which was updated then
+abbrev pub updated-unit : State
+updated-unit = step smallest (run smallest (bench-state Older Longer) (interrupted Older Longer)) Updated
+
+-- all of that, a power-up and a save
+abbrev pub updated-events : List Event
+updated-events =
+    let up = to-its-end smallest updated-unit (powered-up (numbered-power-up smallest 3)) in
+    interrupted Older Longer ++ Updated ∷ (up ++ saves-on smallest 4 1 (run smallest updated-unit up))
+
+-- the power-up erases first, and its restart is kept by the save, whose record is the fifth
 pub record UpdatedInErase : Type 0 where
-  pub erases-first :
-      let t = step smallest (run smallest (bench-state Older Longer) (interrupted Older Longer)) Updated in
-      power-up (t .form) (t .ring) (t .fram) (numbered-power-up smallest 3) .job .phase ≡ EraseFirst 0
-  pub allowed :
-      let t = step smallest (run smallest (bench-state Older Longer) (interrupted Older Longer)) Updated in
-      let up = to-its-end smallest t (powered-up (numbered-power-up smallest 3)) in
-      Allowed smallest (bench-state Older Longer) (interrupted Older Longer ++ Updated ∷ (up ++ saves-on smallest 4 1 (run smallest t up)))
-  pub newest :
-      let t = step smallest (run smallest (bench-state Older Longer) (interrupted Older Longer)) Updated in
-      let up = to-its-end smallest t (powered-up (numbered-power-up smallest 3)) in
-      let s = run smallest (bench-state Older Longer) (interrupted Older Longer ++ Updated ∷ (up ++ saves-on smallest 4 1 (run smallest t up))) in
-      (read-ring (s .ring) pages-least slots-least ≡ At 2 0) × (s .journal .power-ups ≡ 1)
+  pub erases-first : power-up (updated-unit .form) (updated-unit .ring) (updated-unit .fram) (numbered-power-up smallest 3) .job .phase ≡ EraseFirst 0
+  pub allowed : Allowed smallest (bench-state Older Longer) updated-events
+  pub newest : read-ring (run smallest (bench-state Older Longer) updated-events .ring) pages-least slots-least ≡ At 2 0
+  pub power-ups : run smallest (bench-state Older Longer) updated-events .journal .power-ups ≡ 1
 
 -- a unit with 88 bytes of FRAM, updated after its first save: the checkpoint sealed anew outgrows the half, and the power-up gives 4
 unfoldable pub OutgrownExample : Type 0

@@ -232,7 +232,7 @@ fn a_power_up_reseals_them() {
     assert_eq!(resealed, 7);
 }
 
-/// Every power loss of that power-up leaves the older checkpoint or the new one, whichever was recorded last.
+/// Every power loss between two stores of that power-up leaves the older checkpoint or the new one, whichever was recorded last.
 #[test]
 fn a_power_loss_in_the_resealing() {
     for (name, text, _) in IMAGES.into_iter().filter(|(_, _, expected)| *expected == DONE) {
