@@ -1,11 +1,11 @@
 -- Laws of a block in two words: xor, a bit times a number, the shift by one, and the bits from a place on. Assumes nothing.
-use mathlib.Core.Path.{_≡_, sym, ap, ap₂, _∙_}
+use mathlib.Core.Path.{_≡_, refl, sym, ap, ap₂, _∙_}
 use mathlib.Core.List.{List, _++_}
 use Prim.Native.Nat.{ℕ, zero, suc, _+_, _-_, _*_, _/_, _%_, _^_, _≤_, _<_}
 use native.Mathlib.Nat.{add-zero, zero-mul, one-mul, mul-assoc, mod-lt, zero-lt-suc, lt-of-lt-of-le}
 use native.Mathlib.Numerals.{add-one}
 use native.Mathlib.Omega.{arith}
-use lib.Bits.{bitXor, bitOr, bitAnd, xor-block, xor-zero-r, or-shifted, and-mask}
+use lib.Bits.{bitXor, bitOr, xor-block, xor-zero-r, or-shifted}
 use lib.ListN.{getD}
 use lib.Pow.{high, low, field, shr-shr, mod-mod-pow, pow-mono}
 use Rattle.octets.specs.Octets.{number, bytes}
@@ -24,20 +24,32 @@ add-if-mul zero x y h = sym (ap (bitXor x) (zero-mul y) ∙ xor-zero-r x)
 add-if-mul (suc zero) x y h = sym (ap (bitXor x) (one-mul y))
 add-if-mul (suc (suc n)) x y h = absurd (omega arith)
 
+-- a bit times a word is a word
+pub bit-times-fits : (b w : ℕ) → b < 2 → w < 2 ^ 64 → b * w < 2 ^ 64
+bit-times-fits zero w h l = rw zero-mul (zero-lt-suc _)
+bit-times-fits (suc zero) w h l = rw one-mul l
+bit-times-fits (suc (suc n)) w h l = absurd (omega arith)
+
 -- the top word of R
 abbrev E1 : ℕ
 E1 = 0xe1 * 2 ^ 56
+
+-- the folded constant, by its two cases, is the bit times the top word of R
+folded : (b f : ℕ) → b < 2 → (b ≡ 0 → f ≡ 0) × (b ≡ 1 → f ≡ E1) → f ≡ b * E1
+folded zero f h cases = cases .0 refl ∙ sym (zero-mul E1)
+folded (suc zero) f h cases = cases .1 refl ∙ sym (one-mul E1)
+folded (suc (suc n)) f h cases = absurd (omega arith)
 
 -- the low word of a block that is shifted right by one
 low-half : (hi lo : ℕ) → lo < 2 ^ 64 → bitOr (hi * 2 ^ 63 % 2 ^ 64) (lo / 2) ≡ hi % 2 * 2 ^ 63 + lo / 2
 low-half hi lo h =
     ap (λ (x : ℕ). bitOr x (lo / 2)) (let e : hi * 2 ^ 63 % 2 ^ 64 ≡ hi % 2 * 2 ^ 63 = omega arith in e) ∙ or-shifted (hi % 2) 63 (lo / 2) (omega arith)
 
-pub halve-words : (hi lo : ℕ) → lo < 2 ^ 64
-    → words (bitXor (hi / 2) (bitAnd lo 1 * E1)) (bitOr (hi * 2 ^ 63 % 2 ^ 64) (lo / 2)) ≡ halved (words hi lo)
+pub halve-words : (hi lo f : ℕ) → lo < 2 ^ 64 → (lo % 2 ≡ 0 → f ≡ 0) × (lo % 2 ≡ 1 → f ≡ E1)
+    → words (bitXor (hi / 2) f) (bitOr (hi * 2 ^ 63 % 2 ^ 64) (lo / 2)) ≡ halved (words hi lo)
 unfolding words halved
-halve-words hi lo h =
-    ap₂ (λ (x y : ℕ). words (bitXor (hi / 2) (x * E1)) y) (and-mask lo 1) (low-half hi lo h ∙ sym (xor-zero-r (hi % 2 * 2 ^ 63 + lo / 2)))
+halve-words hi lo f h cases =
+    ap₂ (λ (x y : ℕ). words (bitXor (hi / 2) x) y) (folded (lo % 2) f (omega arith) cases) (low-half hi lo h ∙ sym (xor-zero-r (hi % 2 * 2 ^ 63 + lo / 2)))
     ∙ xor-words (hi / 2) (hi % 2 * 2 ^ 63 + lo / 2) (lo % 2 * E1) 0 (omega arith) (omega arith)
     ∙ ap₂ bitXor (let e : hi / 2 * 2 ^ 64 + (hi % 2 * 2 ^ 63 + lo / 2) ≡ (hi * 2 ^ 64 + lo) / 2 = omega arith in e)
     (add-zero (lo % 2 * E1 * 2 ^ 64) ∙ mul-assoc (lo % 2) E1 (2 ^ 64)

@@ -22,13 +22,20 @@ pub fn add(a: Block, b: Block) -> Block
     }
 }
 
-// v shifted right by one bit, with R added if the bit that left was 1: that bit times 0xE1 in the top byte.
+// The constant that is folded into the high word as a block is shifted right by one bit, by arithmetic from the bit that leaves the low
+// word: 0 for 0, 0xE1 in the top byte for 1.
+fn folded_constant(lo: u64) -> u64
+    ensures { λ r. ⌜ (lo % 2 ≡ 0 → r ≡ 0) × (lo % 2 ≡ 1 → r ≡ 0xe1 * 2 ^ 56) ⌝ }
+{
+    lo % 2 * 0xe100_0000_0000_0000
+}
+
+// v shifted right by one bit, with R added if the bit that left was 1.
 fn halve(v: Block) -> Block
     ensures { λ r. ⌜ value r ≡ halved (value v) ⌝ }
 {
-    let left = v.lo & 1;
     Block {
-        hi: (v.hi >> 1) ^ (left * 0xe100_0000_0000_0000),
+        hi: (v.hi >> 1) ^ folded_constant(v.lo),
         lo: (v.hi << 63) | (v.lo >> 1),
     }
 }
