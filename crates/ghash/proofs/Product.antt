@@ -7,6 +7,7 @@ use native.Mathlib.Numerals.{add-one}
 use native.Mathlib.Omega.{arith}
 use borrow.Author.Count.{below-more}
 use lib.Bits.{bitXor, bitAnd, and-zero-l, and-comm, and-mask, xor-zero-r}
+use lib.Dec.{lit<}
 use lib.ListN.{length, getD, set}
 use lib.Pow.{field, shr-shr, shl-shr}
 use lib.Seq.{getD-set-same, getD-set-other, lt-length-set}
@@ -17,6 +18,11 @@ use Rattle.ghash.proofs.Words.{xor-words, from-hi, from-lo}
 -- a word under the mask of ones
 under-ones : (w : ℕ) → w < 2 ^ 64 → bitAnd 0xffffffffffffffff w ≡ w
 under-ones w h = and-comm 0xffffffffffffffff w ∙ and-mask w 64 ∙ mod-eq-of-lt h
+
+pub mask-fits : (b : ℕ) → b < 2 → b * 0xffffffffffffffff < 2 ^ 64
+mask-fits zero h = lit< tt
+mask-fits (suc zero) h = lit< tt
+mask-fits (suc (suc n)) h = absurd (omega arith)
 
 -- a block added under the mask of a bit
 pub masked : (b zh zl vh vl : ℕ) → b < 2 → zl < 2 ^ 64 → vh < 2 ^ 64 → vl < 2 ^ 64

@@ -24,12 +24,6 @@ add-if-mul zero x y h = sym (ap (bitXor x) (zero-mul y) ∙ xor-zero-r x)
 add-if-mul (suc zero) x y h = sym (ap (bitXor x) (one-mul y))
 add-if-mul (suc (suc n)) x y h = absurd (omega arith)
 
--- a bit times a word is a word
-pub bit-times-fits : (b w : ℕ) → b < 2 → w < 2 ^ 64 → b * w < 2 ^ 64
-bit-times-fits zero w h l = rw zero-mul (zero-lt-suc _)
-bit-times-fits (suc zero) w h l = rw one-mul l
-bit-times-fits (suc (suc n)) w h l = absurd (omega arith)
-
 -- the top word of R
 abbrev E1 : ℕ
 E1 = 0xe1 * 2 ^ 56
@@ -40,10 +34,13 @@ folded zero f h cases = cases .0 refl ∙ sym (zero-mul E1)
 folded (suc zero) f h cases = cases .1 refl ∙ sym (one-mul E1)
 folded (suc (suc n)) f h cases = absurd (omega arith)
 
+-- a word shifted left so far that its last bit is on top
+pub last-bit : (w : ℕ) → w * 2 ^ 63 % 2 ^ 64 ≡ w % 2 * 2 ^ 63
+last-bit w = omega arith
+
 -- the low word of a block that is shifted right by one
 low-half : (hi lo : ℕ) → lo < 2 ^ 64 → bitOr (hi * 2 ^ 63 % 2 ^ 64) (lo / 2) ≡ hi % 2 * 2 ^ 63 + lo / 2
-low-half hi lo h =
-    ap (λ (x : ℕ). bitOr x (lo / 2)) (let e : hi * 2 ^ 63 % 2 ^ 64 ≡ hi % 2 * 2 ^ 63 = omega arith in e) ∙ or-shifted (hi % 2) 63 (lo / 2) (omega arith)
+low-half hi lo h = ap (λ (x : ℕ). bitOr x (lo / 2)) (last-bit hi) ∙ or-shifted (hi % 2) 63 (lo / 2) (omega arith)
 
 pub halve-words : (hi lo f : ℕ) → lo < 2 ^ 64 → (lo % 2 ≡ 0 → f ≡ 0) × (lo % 2 ≡ 1 → f ≡ E1)
     → words (bitXor (hi / 2) f) (bitOr (hi * 2 ^ 63 % 2 ^ 64) (lo / 2)) ≡ halved (words hi lo)

@@ -1,9 +1,7 @@
 -- `ghash::field::add_if` meets its contract. Assumes nothing.
 use Prim.Native.Nat.{_/_, _^_}
 use native.Mathlib.Omega.{arith}
-use lib.Dec.{lit<}
-use Rattle.ghash.proofs.Product.{masked}
-use Rattle.ghash.proofs.Words.{bit-times-fits}
+use Rattle.ghash.proofs.Product.{mask-fits, masked}
 use Rattle.ghash.proofs.field.add_if.Statement.{statement}
 use Rattle.ghash.proofs.field.add_if.Tie as tie
 
@@ -11,4 +9,4 @@ returns : tie.Need-returns
 returns c = masked _ _ _ _ _ (omega arith) (omega arith) (omega arith) (omega arith)
 
 pub add-if-spec : {M : Type 1} → statement M
-add-if-spec = tie.close (tie.spec (λ c. record { fits = bit-times-fits (c .args .w / 2 ^ 63) 0xffffffffffffffff (omega arith) (lit< tt) }) returns)
+add-if-spec = tie.close (tie.spec (λ c. record { fits = mask-fits (c .args .w / 2 ^ 63) (omega arith) }) returns)

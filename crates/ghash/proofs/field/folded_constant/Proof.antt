@@ -1,13 +1,14 @@
--- `ghash::field::folded_constant` meets its contract. Assumes nothing.
+-- `ghash::field::folded_constant` meets its contract: 0xE1 is the top bit and the bits one, two and seven places below it. Assumes nothing.
 use native.Mathlib.Omega.{arith}
 use borrow.Author.Needs.{needs}
-use lib.Dec.{lit<}
-use Rattle.ghash.proofs.Words.{bit-times-fits}
+use Rattle.ghash.proofs.Words.{last-bit}
 use Rattle.ghash.proofs.field.folded_constant.Statement.{statement}
 use Rattle.ghash.proofs.field.folded_constant.Tie as tie
 
-mul-result : tie.Need-mul-result
-mul-result c = record { fits = bit-times-fits _ _ (omega arith) (lit< tt) }
+returns : tie.Need-returns
+returns c =
+    let bit = last-bit (c .args .lo) in
+    (λ zero. omega arith, λ one. omega arith)
 
 pub folded-constant-spec : {M : Type 1} → statement M
-folded-constant-spec = tie.close (tie.spec mul-result (λ c. search needs))
+folded-constant-spec = tie.close (tie.spec (λ c. search needs) (λ c. search needs) (λ c. search needs) returns)
