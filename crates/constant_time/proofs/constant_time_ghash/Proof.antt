@@ -25,26 +25,26 @@ ghash-requires c κs =
     let C = leb-true (length (a .cipher .now)) text-limit (fits .1) in
     (omega arith, omega arith)
 
-module _ (h aad cipher : List ℕ) (before r : ℕ) where
-  hashed : hashes (length aad) (length cipher) ≡ true → (H : ℕ) → H ≡ number h 0 16 → r ≡ GHASH H (hash-input aad cipher) → r ≡ hash-call h aad cipher before
-  hashed fits H e hash =
-      hash ∙ ap (λ (k : ℕ). GHASH k (hash-input aad cipher)) e
-      ∙ ap (λ (t : Bool). cond t (GHASH (number h 0 16) (hash-input aad cipher)) before) (sym fits)
-
-  kept : hashes (length aad) (length cipher) ≡ false → before ≡ hash-call h aad cipher before
-  kept long = ap (λ (t : Bool). cond t (GHASH (number h 0 16) (hash-input aad cipher)) before) (sym long)
+-- what the words hold, by whether the lengths fit
+left : (t : Bool) (h aad cipher : List ℕ) (before : ℕ) → hashes (length aad) (length cipher) ≡ t
+    → cond t (GHASH (number h 0 16) (hash-input aad cipher)) before ≡ hash-call h aad cipher before
+left t h aad cipher before e = ap (λ (b : Bool). cond b (GHASH (number h 0 16) (hash-input aad cipher)) before) (sym e)
 
 returns : tie.Need-returns
 returns c =
     let steps = c .before .before in
     let test = steps .before .before in
-    let a = test .before .before .before .before .args in
-    (sym (test .if1 .taken), hashed (a .h .now) (a .aad .now) (a .cipher .now) _ _ (test .if1 .taken) _ (steps .before .block-at .ensures) (c .ghash .ensures _ (steps .steps .ensures)))
+    let a = test .before .before .before .before .args in (
+      sym (test .if1 .taken),
+      c .ghash .ensures _ (steps .steps .ensures)
+          ∙ ap (λ (H : ℕ). GHASH H (hash-input (a .aad .now) (a .cipher .now))) (steps .before .block-at .ensures)
+          ∙ left true (a .h .now) (a .aad .now) (a .cipher .now) _ (test .if1 .taken),
+    )
 
 returns-2 : tie.Need-returns-2
 returns-2 c =
     let a = c .before .before .before .before .args in
-    (sym (c .if1 .left), kept (a .h .now) (a .aad .now) (a .cipher .now) _ 0 (c .if1 .left))
+    (sym (c .if1 .left), left false (a .h .now) (a .aad .now) (a .cipher .now) _ (c .if1 .left))
 
 pub constant-time-ghash-spec : {M : Type 1} → statement M
 constant-time-ghash-spec =
