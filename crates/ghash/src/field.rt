@@ -23,12 +23,12 @@ pub fn add(a: Block, b: Block) -> Block
 }
 
 // The constant that is folded into the high word as a block is shifted right by one bit, by arithmetic from the bit that leaves the low
-// word: 0 for 0, 0xE1 in the top byte for 1. It is a sum of shifts, for of the bit times 0xE1 the compiler makes a choice by a flag.
+// word: 0 for 0, 0xE1 in the top byte for 1, as 7 times 0x20 and 1. Of the bit times the constant the compiler makes a choice by a flag.
 fn folded_constant(lo: u64) -> u64
     ensures { λ r. ⌜ (lo % 2 ≡ 0 → r ≡ 0) × (lo % 2 ≡ 1 → r ≡ 0xe1 * 2 ^ 56) ⌝ }
 {
     let bit = lo << 63;
-    bit + (bit >> 1) + (bit >> 2) + (bit >> 7)
+    7 * (bit >> 2) + (bit >> 7)
 }
 
 // v shifted right by one bit, with R added if the bit that left was 1.

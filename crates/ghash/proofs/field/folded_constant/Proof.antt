@@ -1,4 +1,4 @@
--- `ghash::field::folded_constant` meets its contract: 0xE1 is the top bit and the bits one, two and seven places below it. Assumes nothing.
+-- `ghash::field::folded_constant` meets its contract. Assumes nothing.
 use native.Mathlib.Omega.{arith}
 use borrow.Author.Needs.{needs}
 use Rattle.ghash.proofs.Words.{last-bit}
@@ -11,4 +11,4 @@ returns c =
     (λ zero. omega arith, λ one. omega arith)
 
 pub folded-constant-spec : {M : Type 1} → statement M
-folded-constant-spec = tie.close (tie.spec (λ c. search needs) (λ c. search needs) (λ c. search needs) returns)
+folded-constant-spec = tie.close (tie.spec (λ c. search needs) (λ c. search needs) returns)
