@@ -42,8 +42,9 @@
  * the caller's memory. The lowest number that applies is given, but 18 right after 4, and a power-up's 4 for a checkpoint that does not fit
  * its half in the longer form after 13; of a text, the lowest that applies to its first bad line.
  *
- * Not proved: time (the costs below are those of the source), and what is left on the stack. Tested under memcheck, on x86-64: no jump and no
- * address depends on key, tags, parts or sealed text, but for AES's look-ups in its tables and one jump on whether a tag is right.
+ * Not proved: time (the costs below are those of the source), and what is left on the stack. Run under memcheck (hosts/constant_time), the
+ * calls make no jump and use no address that depends on key, tags, parts or sealed text, but for AES's look-ups in its tables and one jump on
+ * whether a tag is right.
  */
 #ifndef KEEPER_H
 #define KEEPER_H

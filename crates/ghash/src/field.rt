@@ -23,7 +23,7 @@ pub fn add(a: Block, b: Block) -> Block
 }
 
 // The constant that is folded into the high word as a block is shifted right by one bit, by arithmetic from the bit that leaves the low
-// word: 0 for 0, 0xE1 in the top byte for 1, as 7 times 0x20 and 1. Of the bit times the constant the compiler makes a choice by a flag.
+// word: 0 for 0, 0xE1 in the top byte for 1. There it is 7 times 0x20 and 1; the bit times 0xE1 would be compiled to a conditional move.
 fn folded_constant(lo: u64) -> u64
     ensures { λ r. ⌜ (lo % 2 ≡ 0 → r ≡ 0) × (lo % 2 ≡ 1 → r ≡ 0xe1 * 2 ^ 56) ⌝ }
 {
