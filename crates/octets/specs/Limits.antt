@@ -65,3 +65,7 @@ image-limit = 262144
 -- the data bytes of an exported line
 abbrev pub data-per-line : ℕ
 data-per-line = 16
+
+-- ---- recorded bench traces (document 02, A.4), in words
+abbrev pub trace-limit : ℕ
+trace-limit = 4096

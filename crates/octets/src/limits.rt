@@ -38,3 +38,6 @@ pub const TEXT_LIMIT: usize = 65_536;
 pub const IMAGE_LIMIT: usize = 262_144;
 
 pub const DATA_PER_LINE: usize = 16;
+
+// Recorded bench traces, in words.
+pub const TRACE_LIMIT: usize = 4096;

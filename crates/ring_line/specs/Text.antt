@@ -29,6 +29,9 @@ decimal n =
 unfoldable pub refused-text : ℕ → List ℕ
 refused-text n = ascii "refused " ++ decimal n
 
+abbrev pub refused-line : ℕ → List ℕ
+refused-line n = refused-text n ++ ascii "\n"
+
 abbrev pub half-text : ℕ → List ℕ
 half-text half = cond (eqb half 0) (ascii " half A") (ascii " half B")
 

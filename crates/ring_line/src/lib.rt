@@ -12,9 +12,10 @@ ghost use mathlib.Core.Bool.{false};
 ghost use mathlib.Core.List.{[]};
 ghost use Prim.Native.Nat.{_+_, _≤_, _<_};
 ghost use lib.ListN.{length};
+ghost use Rattle.stops.specs.View.{stop-number};
 ghost use Rattle.ring.specs.Ring.{ring-wrong, read-ring};
 ghost use Rattle.ring.specs.View.{newest};
-ghost use Rattle.ring_line.specs.Text.{digit, decimal, refused-text, half-text, place-text, newest-text, ring-text};
+ghost use Rattle.ring_line.specs.Text.{digit, decimal, refused-text, refused-line, half-text, place-text, newest-text, ring-text};
 ghost use Rattle.ring_line.specs.Line.{line-limit, Added, Short};
 
 // The first `length` bytes are the line; the others are zeros.
@@ -92,6 +93,13 @@ fn refused(n: u32) -> Line
     Line::empty().add(b"refused ").add_decimal(n as usize)
 }
 
+// The line of a stop with a line feed.
+pub fn refused_line(stop: Stop) -> Line
+    ensures { λ r. ⌜ Short (refused-line (stop-number stop)) r line-limit ⌝ }
+{
+    refused(stop_number(stop)).add(b"\n")
+}
+
 // The newest record's place, up to the pending page.
 fn place(page: usize, slot: usize, half: usize) -> Line
     requires { ⌜ (page < 1000) × (slot < 1000) ⌝ }
@@ -126,7 +134,7 @@ pub fn ring_line(ring: &[u8], pages: usize, slots: usize) -> Line
     ensures { λ r. ⌜ Short (ring-text pages slots (now (ring .entry))) r line-limit ⌝ }
 {
     if ring_wrong(ring, pages, slots) {
-        return refused(stop_number(Stop::RingSize)).add(b"\n");
+        return refused_line(Stop::RingSize);
     }
     let n = read_ring(ring, pages, slots);
     found(ring, pages, slots, n).add(b"\n")

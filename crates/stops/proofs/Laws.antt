@@ -1,15 +1,16 @@
 -- Laws of `first-of`: conditions tried one at a time, and what is known where none holds. Assumes nothing.
-use Prim.Native.Nat.{ℕ, _-_}
+use Prim.Native.Nat.{ℕ, _-_, _<_}
 use mathlib.Core.Path.{_≡_, refl, sym, ap, _∙_}
 use mathlib.Core.Bool.{Bool, true, false, cond, _||_}
 use mathlib.Core.Option.{Option, none, some}
 use mathlib.Core.List.{List, [], _∷_, _++_}
 use native.Mathlib.Omega.{arith}
+use lib.Dec.{lit<}
 use lib.ListN.{getD}
 use Rattle.stops.specs.Stops.{first-of, then-stop}
 use Rattle.stops.specs.View.{stop-number}
 use Rattle.stops.specs.declared.Stop.{Stop}
-use Rattle.stops.specs.declared.Stop.the-variants.{RingSize, FramSize, KeyNonceTagSize, BufferSize, RingInUse, RingBlank, RingUnreadable, StaleSession, PagePending, NonceUsed, BadHead, TagDiffers, RestartLimit, BadJob, BadLine, BadChecksum, DataMisplaced, PacketTooLarge}
+use Rattle.stops.specs.declared.Stop.the-variants.{RingSize, FramSize, KeyNonceTagSize, BufferSize, RingInUse, RingBlank, RingUnreadable, StaleSession, PagePending, NonceUsed, BadHead, TagDiffers, RestartLimit, BadJob, BadLine, BadChecksum, DataMisplaced, PacketTooLarge, BadTrace}
 
 -- the conditions of a list tried in turn, from what was found before them
 unfoldable pub tried : Option ℕ → List (ℕ × Bool) → Option ℕ
@@ -69,11 +70,11 @@ pub neither : (a b : Bool) → a || b ≡ false → (a ≡ false) × (b ≡ fals
 neither true b e = let z : _≡_ {A = ℕ} 0 1 = cc in absurd (omega arith)
 neither false b e = (refl, e)
 
--- the stops in the order of their numbers, from 1 on: no two have one number
+-- the stops in the order of their numbers, from 1 on; 19 is none's, and the first stands in its place: no two have one number
 stops : List Stop
 stops =
     RingSize ∷ FramSize ∷ KeyNonceTagSize ∷ BufferSize ∷ RingInUse ∷ RingBlank ∷ RingUnreadable ∷ StaleSession ∷ PagePending ∷ NonceUsed
-    ∷ BadHead ∷ TagDiffers ∷ RestartLimit ∷ BadJob ∷ BadLine ∷ BadChecksum ∷ DataMisplaced ∷ PacketTooLarge ∷ []
+    ∷ BadHead ∷ TagDiffers ∷ RestartLimit ∷ BadJob ∷ BadLine ∷ BadChecksum ∷ DataMisplaced ∷ PacketTooLarge ∷ RingSize ∷ BadTrace ∷ []
 
 stop-of : ℕ → Stop
 stop-of n = getD stops (n - 1) RingSize
@@ -98,6 +99,29 @@ back BadLine = refl
 back BadChecksum = refl
 back DataMisplaced = refl
 back PacketTooLarge = refl
+back BadTrace = refl
 
 pub stop-number-injective : (s t : Stop) → stop-number s ≡ stop-number t → s ≡ t
 stop-number-injective s t e = sym (back s) ∙ ap stop-of e ∙ back t
+
+-- every number has at most two digits
+pub stop-number-short : (s : Stop) → stop-number s < 100
+stop-number-short RingSize = lit< tt
+stop-number-short FramSize = lit< tt
+stop-number-short KeyNonceTagSize = lit< tt
+stop-number-short BufferSize = lit< tt
+stop-number-short RingInUse = lit< tt
+stop-number-short RingBlank = lit< tt
+stop-number-short RingUnreadable = lit< tt
+stop-number-short StaleSession = lit< tt
+stop-number-short PagePending = lit< tt
+stop-number-short NonceUsed = lit< tt
+stop-number-short BadHead = lit< tt
+stop-number-short TagDiffers = lit< tt
+stop-number-short RestartLimit = lit< tt
+stop-number-short BadJob = lit< tt
+stop-number-short BadLine = lit< tt
+stop-number-short BadChecksum = lit< tt
+stop-number-short DataMisplaced = lit< tt
+stop-number-short PacketTooLarge = lit< tt
+stop-number-short BadTrace = lit< tt

@@ -23,6 +23,7 @@ pub enum Stop {
     BadChecksum,
     DataMisplaced,
     PacketTooLarge,
+    BadTrace,
 }
 
 // What an operation's checks say.
@@ -54,6 +55,7 @@ pub fn stop_number(stop: Stop) -> u32
         Stop::BadChecksum => 16,
         Stop::DataMisplaced => 17,
         Stop::PacketTooLarge => 18,
+        Stop::BadTrace => 20,
     }
 }
 

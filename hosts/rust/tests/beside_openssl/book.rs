@@ -37,7 +37,7 @@ pub struct Book {
     slots: usize,
     pub entry: Option<Checkpoint>,
     pub n: usize,
-    owed: bool,
+    pub owed: bool,
     draft: Option<Draft>,
     /// For demand 3: how many power-ups were recorded; "It counts power-ups since the last record that set restarts to 0."
     pub power_ups: usize,

@@ -15,5 +15,6 @@ mod operations;
 mod packets;
 mod random;
 mod seal_open;
+mod traces;
 mod typed;
 mod unit;

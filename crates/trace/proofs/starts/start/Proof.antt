@@ -1,0 +1,53 @@
+-- `trace::starts::start` meets its contract: the word's kind picks the start. Assumes nothing.
+use mathlib.Core.Path.{sym, _∙_}
+use borrow.Author.Needs.{needs}
+use Rattle.trace.proofs.Starting.{starts-first, starts-save, starts-power-up}
+use Rattle.trace.proofs.starts.start.Statement.{statement}
+use Rattle.trace.proofs.starts.start.Tie as tie
+
+returns : tie.Need-returns
+returns c =
+    let called = c .before .before in
+    let valued = called .before .before in
+    let test = valued .before .before in
+    let a = test .before .before .before .before .args in
+    starts-first _ _ (a .held) (a .w) _ _ _ _ (valued .value .ensures .0) (sym (test .kind .ensures) ∙ valued .before .if1 .taken) (called .start-first-save .ensures)
+
+returns-2 : tie.Need-returns-2
+returns-2 c =
+    let called = c .before .before in
+    let valued = called .before .before in
+    let again = valued .before .before in
+    let test = again .before .before in
+    let a = test .before .before .before .before .args in
+    starts-save _ _ (a .held) (a .w) _ _ _ _ (valued .value2 .ensures .0) (λ e. again .before .if1 .left (test .kind .ensures ∙ e))
+    (sym (again .kind2 .ensures) ∙ valued .before .if2 .taken) (called .start-save .ensures)
+
+returns-3 : tie.Need-returns-3
+returns-3 c =
+    let called = c .before .before in
+    let valued = called .before .before in
+    let again = valued .before .before in
+    let test = again .before .before in
+    let a = test .before .before .before .before .args in
+    starts-power-up _ _ (a .held) (a .w) _ _ _ _ (valued .value3 .ensures .0) (λ e. again .before .if1 .left (test .kind .ensures ∙ e))
+    (λ e. valued .before .if2 .left (again .kind2 .ensures ∙ e)) (called .start-power-up .ensures)
+
+pub start-spec : {M : Type 1} → statement M
+start-spec =
+    tie.close
+    (tie.spec
+    (λ c κs. search needs)
+    (λ c κs. search needs)
+    (λ c κs. search needs)
+    (λ c. search needs)
+    returns
+    (λ c κs. search needs)
+    (λ c κs. search needs)
+    (λ c κs. search needs)
+    (λ c. search needs)
+    returns-2
+    (λ c κs. search needs)
+    (λ c κs. search needs)
+    (λ c. search needs)
+    returns-3)

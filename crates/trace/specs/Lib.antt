@@ -1,0 +1,4 @@
+-- Recorded bench traces.
+pub mod Trace
+pub mod View
+pub mod Rule

@@ -1,0 +1,94 @@
+-- The cut rule for traces (document 02, A.4): a trace as a list of calls and power losses of the theorem Recovery, and what that theorem says of
+-- the memories that the trace leaves.
+use Prim.Native.Nat.{ℕ, zero, suc}
+use mathlib.Core.Path.{_≡_}
+use mathlib.Core.Bool.{cond}
+use mathlib.Core.Option.{Option, none, some}
+use mathlib.Core.List.{List, [], _∷_, _++_, List·Memᴰ}
+use lib.Dec.{eqb}
+use Rattle.checkpoint.specs.Checkpoint.{Longer}
+use Rattle.protocol.specs.Types.{Session}
+use Rattle.protocol.specs.Calls.{Advances, PowersUp, Setup, Event, first-saved, saved, powered-up, advanced-by, PowerLoss}
+use Rattle.protocol.specs.Operations.{no-session, advance}
+use Rattle.protocol.specs.History as history
+use Rattle.protocol.specs.History.{State, Handed, fresh, refused, run, Allowed}
+use Rattle.protocol.specs.Recovery.{is-going, with-handed, Exactly, Seen, Last, Outcome}
+use Rattle.trace.specs.Trace.{kind, value, is-cut, bench-sizes, bench-key, staging-room, nonce-of, first-saving, saving, powering-up, stores-until, Bench, step, after, blank-bench}
+
+abbrev pub bench-setup : Setup
+bench-setup = record { sizes = bench-sizes; key = bench-key }
+
+-- ---- the events of a trace
+
+-- a save without a session stands in the list as one that every unit refuses
+abbrev pub given : Option Session → Session
+given none = no-session
+given (some z) = z
+
+-- the call that begins the operation of a word
+unfoldable pub call : Option Session → ℕ → Event
+call session w =
+    cond (eqb (kind w) 1) (first-saved (first-saving (value w) staging-room))
+    (cond (eqb (kind w) 2) (saved (saving (value w) staging-room (given session)))
+    (powered-up (powering-up (value w) staging-room)))
+
+abbrev pub advance-of : Handed → Advances
+advance-of h = record { sizes = bench-sizes; job = h .job; staging = h .staging }
+
+-- at most n advances of the job handed out last, while it is going on
+unfoldable pub advances-while : ℕ → State → List Event
+advances-while zero s = []
+advances-while (suc n) s = with-handed (s .handed) (λ h.
+    let e = advanced-by (advance-of h) in
+    e ∷ cond (is-going (advance (s .form) (s .ring) (s .fram) (advance-of h) .progress)) (advances-while n (history.step bench-setup s e)) [])
+
+unfoldable pub loss-if : Option ℕ → List Event
+loss-if none = []
+loss-if (some n) = PowerLoss ∷ []
+
+-- an operation's call, its advances, and the power loss if a cut is set
+unfoldable pub operation-events : Bench → State → ℕ → List Event
+operation-events b s w =
+    let e = call (b .session) w in
+    (e ∷ cond (refused s e) [] (advances-while (stores-until (b .cut)) (history.step bench-setup s e))) ++ loss-if (b .cut)
+
+unfoldable pub events-of : Bench → State → List ℕ → List Event
+events-of b s [] = []
+events-of b s (w ∷ more) =
+    let events = cond (is-cut w) [] (operation-events b s w) in
+    events ++ events-of (step b w) (run bench-setup s events) more
+
+-- ---- the theorem
+
+-- the nonces of a trace's operations, refused ones included
+unfoldable pub nonces : List ℕ → List (List ℕ)
+nonces [] = []
+nonces (w ∷ more) = cond (is-cut w) (nonces more) (nonce-of (value w) ∷ nonces more)
+
+unfoldable pub AllDiffer : List (List ℕ) → Type 0
+AllDiffer [] = Unit {0}
+AllDiffer (n ∷ more) = (List·Memᴰ n more → ⊥) × AllDiffer more
+
+unfoldable pub blank-state : State
+blank-state = fresh Longer (blank-bench .ring) (blank-bench .fram)
+
+abbrev pub trace-events : List ℕ → List Event
+trace-events words = events-of blank-bench blank-state words
+
+-- the state of the theorem Recovery after a trace
+abbrev pub state-after : List ℕ → State
+state-after words = run bench-setup blank-state (trace-events words)
+
+-- the list keeps the rules and leaves the trace's memories, and so the theorem's conclusion holds of them
+pub record Ruled (words : List ℕ) : Type 0 where
+  pub allowed : Allowed bench-setup blank-state (trace-events words)
+  pub form : state-after words .form ≡ Longer
+  pub ring : state-after words .ring ≡ after blank-bench words .ring
+  pub fram : state-after words .fram ≡ after blank-bench words .fram
+  pub exactly : Exactly bench-setup blank-state (trace-events words)
+  pub seen : Seen bench-setup (state-after words)
+  pub outcome : (a : PowersUp) → Last bench-setup (state-after words) a → Outcome bench-setup (state-after words) a
+
+-- of every list of words whose nonces all differ, those that pass the check among them
+unfoldable pub TraceRecovery : Type 0
+TraceRecovery = (words : List ℕ) → AllDiffer (nonces words) → Ruled words

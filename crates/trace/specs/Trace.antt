@@ -1,0 +1,227 @@
+-- A recorded bench trace (document 02, A.4): which traces are run, what each of their words does to the bench's unit, and which lines are printed.
+use Prim.Native.Nat.{ℕ, zero, suc, _+_, _*_, _/_, _%_, _^_}
+use mathlib.Core.Bool.{Bool, false, not, cond, _&&_, _||_}
+use mathlib.Core.Option.{Option, none, some}
+use mathlib.Core.List.{List, [], _∷_, _++_}
+use lib.ListN.{length, replicate}
+use lib.Dec.{eqb, ltb}
+use Rattle.octets.specs.Limits.{slot-length, part-limit, key-length, nonce-length, tag-length, trace-limit}
+use Rattle.octets.specs.Octets.{put, blank, erased, bytes}
+use Rattle.octets.specs.Word.{word-at}
+use Rattle.stops.specs.Stops.{first-of}
+use Rattle.checkpoint.specs.Checkpoint.{Longer}
+use Rattle.protocol.specs.Types.{Session, Progress, GoingOn, Saved, Restored, Refused, Start, Begun, Stopped}
+use Rattle.protocol.specs.Calls.{Sizes, sizes, SaveArguments, FirstSave, Saves, PowersUp}
+use Rattle.protocol.specs.Operations.{Begin, Moved, no-job, no-session, first-save, save, power-up, advance}
+use Rattle.protocol.specs.Recovery.{is-going}
+use Rattle.ring_line.specs.Text.{refused-line, ring-text}
+use Rattle.ring_line.specs.Line.{line-limit}
+
+-- ---- the words
+
+-- the top four bits: 1 first save, 2 save, 3 power-up, 4 cut
+abbrev pub kind : ℕ → ℕ
+kind w = w / 2 ^ 28
+
+-- the low 28 bits
+abbrev pub value : ℕ → ℕ
+value w = w % 2 ^ 28
+
+abbrev pub is-cut : ℕ → Bool
+is-cut w = eqb (kind w) 4
+
+abbrev pub is-operation : ℕ → Bool
+is-operation w = ltb 0 (kind w) && ltb (kind w) 4
+
+-- n words, from word k on
+unfoldable pub words-from : List ℕ → ℕ → ℕ → List ℕ
+words-from trace k zero = []
+words-from trace k (suc n) = word-at trace (4 * k) ∷ words-from trace (suc k) n
+
+unfoldable pub words-of : List ℕ → List ℕ
+words-of trace = words-from trace 0 (length trace / 4)
+
+-- ---- stop 20
+
+-- a cut follows a cut, or a word is neither a cut nor an operation
+unfoldable pub word-wrong : (after-cut : Bool) → ℕ → Bool
+word-wrong after-cut w = cond (is-cut w) after-cut (not (is-operation w))
+
+-- one of the words is so, or the last is a cut
+unfoldable pub words-wrong : (after-cut : Bool) → List ℕ → Bool
+words-wrong after-cut [] = after-cut
+words-wrong after-cut (w ∷ more) = word-wrong after-cut w || words-wrong (is-cut w) more
+
+-- a word is broken, there are too many, or the words are wrong
+unfoldable pub trace-wrong : List ℕ → Bool
+trace-wrong trace = not (eqb (length trace % 4) 0) || ltb (4 * trace-limit) (length trace) || words-wrong false (words-of trace)
+
+-- ---- the bench's unit
+
+abbrev pub bench-pages : ℕ
+bench-pages = 3
+
+abbrev pub bench-slots : ℕ
+bench-slots = 2
+
+abbrev pub bench-sizes : Sizes
+bench-sizes = sizes bench-pages bench-slots
+
+abbrev pub ring-length : ℕ
+ring-length = slot-length * (bench-pages * bench-slots)
+
+abbrev pub fram-length : ℕ
+fram-length = 128
+
+abbrev pub bench-half : ℕ
+bench-half = fram-length / 2
+
+abbrev pub bench-key : List ℕ
+bench-key = replicate key-length 0
+
+-- its staging buffer before a start
+abbrev pub staging-room : List ℕ
+staging-room = replicate bench-half 0
+
+-- what an operation with the value v is given
+abbrev pub nonce-of : ℕ → List ℕ
+nonce-of v = bytes nonce-length v
+
+abbrev pub arguments : ℕ → List ℕ → SaveArguments
+arguments v staging = record { sizes = bench-sizes; key = bench-key; nonce = nonce-of v; packet = v; open-part = []; secret = bytes 4 v; staging = staging }
+
+abbrev pub first-saving : ℕ → List ℕ → FirstSave
+first-saving v staging = record { arguments = arguments v staging; starting-tag = replicate tag-length 0 }
+
+abbrev pub saving : ℕ → List ℕ → Session → Saves
+saving v staging z = record { arguments = arguments v staging; session = z }
+
+abbrev pub powering-up : ℕ → List ℕ → PowersUp
+powering-up v staging = record { sizes = bench-sizes; key = bench-key; nonce = nonce-of v; staging = staging; state = replicate part-limit 0 }
+
+-- ---- an operation
+
+unfoldable pub start-progress : Start → Progress
+start-progress Begun = GoingOn
+start-progress (Stopped n) = Refused n
+
+module _ (ring fram : List ℕ) where
+  -- with no session a save is refused: 6 on a blank ring, else 8
+  unfoldable pub save-with : Option Session → ℕ → List ℕ → Begin
+  save-with none v staging = record { answer = Stopped (cond (blank ring) 6 8); job = no-job; secret-length = 0; staging = staging; state = [] }
+  save-with (some z) v staging = save Longer ring fram (saving v staging z)
+
+  -- the start that a word names
+  unfoldable pub start : Option Session → ℕ → List ℕ → Begin
+  start session w staging =
+      cond (eqb (kind w) 1) (first-save Longer ring fram (first-saving (value w) staging))
+      (cond (eqb (kind w) 2) (save-with session (value w) staging)
+      (power-up Longer ring fram (powering-up (value w) staging)))
+
+  -- a start before its first store
+  unfoldable pub started : Begin → Moved
+  started b = record { progress = start-progress (b .answer); job = b .job; session = no-session; ring = ring; fram = fram }
+
+-- at most n stores more, while the job is going on
+unfoldable pub stored-on : ℕ → List ℕ → Moved → Moved
+stored-on zero staging m = m
+stored-on (suc n) staging m =
+    cond (is-going (m .progress)) (stored-on n staging (advance Longer (m .ring) (m .fram) (record { sizes = bench-sizes; job = m .job; staging = staging }))) m
+
+-- no job has more stores: an erase, the words of a half, the record and an erase
+abbrev pub most-stores : ℕ
+most-stores = bench-half / 4 + 3
+
+-- with a cut set, as many stores as it says
+unfoldable pub stores-until : Option ℕ → ℕ
+stores-until none = most-stores
+stores-until (some n) = n
+
+-- the memories, the session and the cut that is set for the next operation
+pub record Bench : Type 0 where
+  pub ring : List ℕ
+  pub fram : List ℕ
+  pub session : Option Session
+  pub cut : Option ℕ
+
+-- what an operation answers and leaves
+unfoldable pub operation : Bench → ℕ → Moved
+operation b w =
+    let s = start (b .ring) (b .fram) (b .session) w staging-room in
+    stored-on (stores-until (b .cut)) (s .staging) (started (b .ring) (b .fram) s)
+
+-- ---- a trace
+
+-- the session handed out, or else the one before
+unfoldable pub handed : Progress → Session → Option Session → Option Session
+handed GoingOn new before = before
+handed Saved new before = some new
+handed Restored new before = some new
+handed (Refused n) new before = before
+
+-- after a cut there is none
+unfoldable pub session-after : Option ℕ → Moved → Option Session → Option Session
+session-after none m before = handed (m .progress) (m .session) before
+session-after (some n) m before = none
+
+unfoldable pub operated : Bench → ℕ → Bench
+operated b w =
+    let m = operation b w in
+    record { ring = m .ring; fram = m .fram; session = session-after (b .cut) m (b .session); cut = none }
+
+unfoldable pub cut-set : Bench → ℕ → Bench
+cut-set b n = record { ring = b .ring; fram = b .fram; session = b .session; cut = some n }
+
+unfoldable pub step : Bench → ℕ → Bench
+step b w = cond (is-cut w) (cut-set b (value w)) (operated b w)
+
+unfoldable pub after : Bench → List ℕ → Bench
+after b [] = b
+after b (w ∷ more) = after (step b w) more
+
+unfoldable pub line-after : Progress → List ℕ → List ℕ
+line-after GoingOn ring = ring-text bench-pages bench-slots ring
+line-after Saved ring = ring-text bench-pages bench-slots ring
+line-after Restored ring = ring-text bench-pages bench-slots ring
+line-after (Refused n) ring = refused-line n
+
+-- an operation prints a line, a cut none
+unfoldable pub printed : Bench → ℕ → List ℕ
+printed b w = let m = operation b w in cond (is-cut w) [] (line-after (m .progress) (m .ring))
+
+unfoldable pub lines : Bench → List ℕ → List ℕ
+lines b [] = []
+lines b (w ∷ more) = printed b w ++ lines (step b w) more
+
+-- both memories blank, no session, no cut
+unfoldable pub blank-bench : Bench
+blank-bench = record { ring = erased ring-length; fram = erased fram-length; session = none; cut = none }
+
+-- room for the lines of the longest trace
+abbrev pub text-length : ℕ
+text-length = trace-limit * line-limit
+
+-- what running a trace answers and leaves: the memories, and the lines at the front of a text, or a stop that leaves all as it was
+pub record Run : Type 0 where
+  pub stop : Option ℕ
+  pub written : ℕ
+  pub ring : List ℕ
+  pub fram : List ℕ
+  pub text : List ℕ
+
+unfoldable pub trace-stop : (trace ring fram text : List ℕ) → Option ℕ
+trace-stop trace ring fram text = first-of (
+    (1, not (eqb (length ring) ring-length)) ∷
+    (2, not (eqb (length fram) fram-length)) ∷
+    (4, ltb (length text) text-length) ∷
+    (20, trace-wrong trace) ∷ [])
+
+unfoldable pub run-by : Option ℕ → (trace ring fram text : List ℕ) → Run
+run-by (some s) trace ring fram text = record { stop = some s; written = 0; ring = ring; fram = fram; text = text }
+run-by none trace ring fram text =
+    let b = after blank-bench (words-of trace) in
+    let l = lines blank-bench (words-of trace) in
+    record { stop = none; written = length l; ring = b .ring; fram = b .fram; text = put text 0 l }
+
+unfoldable pub run-trace : (trace ring fram text : List ℕ) → Run
+run-trace trace ring fram text = run-by (trace-stop trace ring fram text) trace ring fram text

@@ -1,0 +1,130 @@
+// The starts that the words of a trace name.
+use crate::PAGES;
+use crate::SLOTS;
+use crate::unit::Held;
+use crate::words::FIRST_SAVE;
+use crate::words::SAVE;
+use crate::words::kind;
+use crate::words::value;
+use keeper::Start;
+use keeper::Started;
+use keeper::first_save;
+use keeper::no_job;
+use keeper::power_up;
+use octets::blank;
+use octets::copy_at;
+use octets::limits::KEY_LENGTH;
+use octets::limits::PART_LIMIT;
+use octets::limits::TAG_LENGTH;
+use octets::word_bytes;
+use stops::Stop;
+ghost use mathlib.Core.Path.{_≡_};
+ghost use mathlib.Core.Bool.{cond};
+ghost use Rattle.octets.specs.Octets.{blank};
+ghost use Rattle.checkpoint.specs.Checkpoint.{Longer};
+ghost use Rattle.protocol.specs.Types.{Stopped};
+ghost use Rattle.protocol.specs.Operations.{no-job, first-save, power-up};
+ghost use Rattle.jobs.specs.View.{view-start, view-job};
+ghost use Rattle.trace.specs.Trace.{nonce-of, first-saving, powering-up, save-with, start};
+ghost use Rattle.trace.specs.View.{view-held, Starts};
+
+// A value as a nonce, most significant byte first.
+fn nonce_of(value: u32) -> [u8; 12]
+    ensures { λ r. ⌜ r ≡ nonce-of value ⌝ }
+{
+    let mut nonce = [0u8; 12];
+    copy_at(&word_bytes(value), &mut nonce, 8);
+    nonce
+}
+
+fn start_first_save(value: u32, ring: &[u8], fram: &[u8], staging: &mut [u8]) -> Started
+    ensures { λ r. ⌜ Starts r (now (staging .exit)) (first-save Longer (now (ring .entry)) (now (fram .entry)) (first-saving value (now (staging .entry)))) ⌝ }
+{
+    let key = [0u8; KEY_LENGTH];
+    let tag = [0u8; TAG_LENGTH];
+    first_save(
+        PAGES,
+        SLOTS,
+        ring,
+        fram,
+        &key,
+        &nonce_of(value),
+        &tag,
+        value as usize,
+        b"",
+        &word_bytes(value),
+        staging,
+    )
+}
+
+// With no session the keeper is not called.
+fn no_save(ring: &[u8]) -> Started
+    ensures { λ r. ⌜ (view-start (r .start) ≡ Stopped (cond (blank (now (ring .entry))) 6 8)) × (view-job (r .job) ≡ no-job) ⌝ }
+{
+    let job = no_job();
+    if blank(ring) {
+        return Started {
+            start: Start::Stopped(Stop::RingBlank),
+            job,
+        };
+    }
+    Started {
+        start: Start::Stopped(Stop::StaleSession),
+        job,
+    }
+}
+
+fn start_save(held: Held, value: u32, ring: &[u8], fram: &[u8], staging: &mut [u8]) -> Started
+    ensures { λ r. ⌜ Starts r (now (staging .exit)) (save-with (now (ring .entry)) (now (fram .entry)) (view-held held) value (now (staging .entry))) ⌝ }
+{
+    if held.present {
+        let key = [0u8; KEY_LENGTH];
+        let session = held.session;
+        return session.save(
+            PAGES,
+            SLOTS,
+            ring,
+            fram,
+            &key,
+            &nonce_of(value),
+            value as usize,
+            b"",
+            &word_bytes(value),
+            staging,
+        );
+    }
+    no_save(ring)
+}
+
+fn start_power_up(value: u32, ring: &[u8], fram: &[u8], staging: &mut [u8]) -> Started
+    ensures { λ r. ⌜ Starts r (now (staging .exit)) (power-up Longer (now (ring .entry)) (now (fram .entry)) (powering-up value (now (staging .entry)))) ⌝ }
+{
+    let key = [0u8; KEY_LENGTH];
+    let mut state = [0u8; PART_LIMIT];
+    let powered = power_up(
+        PAGES,
+        SLOTS,
+        ring,
+        fram,
+        &key,
+        &nonce_of(value),
+        staging,
+        &mut state,
+    );
+    let start = powered.start;
+    let job = powered.job;
+    Started { start, job }
+}
+
+// The start that a word names.
+pub fn start(w: u32, held: Held, ring: &[u8], fram: &[u8], staging: &mut [u8]) -> Started
+    ensures { λ r. ⌜ Starts r (now (staging .exit)) (start (now (ring .entry)) (now (fram .entry)) (view-held held) w (now (staging .entry))) ⌝ }
+{
+    if kind(w) == FIRST_SAVE {
+        return start_first_save(value(w), ring, fram, staging);
+    }
+    if kind(w) == SAVE {
+        return start_save(held, value(w), ring, fram, staging);
+    }
+    start_power_up(value(w), ring, fram, staging)
+}

@@ -1,0 +1,483 @@
+//! Document 02, A.4: the program `bench_trace`, beside the documents' operations and the book. The variable
+//! `KEEPER_PROGRAMS` names its folder; without it it is in the repository's `target/bin`.
+
+use crate::book::{Book, Cut};
+use crate::layout::{blank, read_ring, Form, Reading};
+use crate::operations::*;
+use crate::random::Random;
+use crate::unit::stopped;
+use std::collections::BTreeMap;
+use std::env;
+use std::fmt::Write as _;
+use std::io::Write as _;
+use std::path::{Path, PathBuf};
+use std::process::{Command, Stdio};
+use std::time::{Duration, Instant};
+
+// "the top four bits are the kind here: 1 first save, 2 save, 3 power-up, 4 cut"
+
+fn first_save(value: u32) -> u32 {
+    1 << 28 | value
+}
+
+fn save(value: u32) -> u32 {
+    2 << 28 | value
+}
+
+fn power_up(value: u32) -> u32 {
+    3 << 28 | value
+}
+
+fn cut(stores: u32) -> u32 {
+    4 << 28 | stores
+}
+
+fn bytes(words: &[u32]) -> Vec<u8> {
+    words.iter().flat_map(|word| word.to_be_bytes()).collect()
+}
+
+/// What the program prints.
+fn printed(trace: &[u8]) -> String {
+    let folder = env::var_os("KEEPER_PROGRAMS").map(PathBuf::from);
+    let folder = folder.unwrap_or_else(|| Path::new(env!("CARGO_MANIFEST_DIR")).join("../../target/bin"));
+    let program = folder.join("bench_trace");
+    let started = Command::new(&program).stdin(Stdio::piped()).stdout(Stdio::piped()).stderr(Stdio::piped()).spawn();
+    let mut started = started.unwrap_or_else(|why| panic!("{}: {why}", program.display()));
+    // The program may stop reading before the end of a trace that is too long.
+    let _ = started.stdin.take().unwrap().write_all(trace);
+    let ran = started.wait_with_output().unwrap();
+    assert!(ran.status.success() && ran.stderr.is_empty(), "{:?}", ran);
+    String::from_utf8(ran.stdout).unwrap()
+}
+
+// What the documents say that it prints.
+
+struct Unit {
+    lent: Lent,
+    book: Book,
+    session: Option<Vec<u8>>,
+    /// How often each kind of start gave each answer.
+    answers: BTreeMap<(u32, u32), usize>,
+}
+
+impl Unit {
+    /// "Open part empty, key and starting tag zero, ring 3 by 2, FRAM 128 bytes, both blank at first, FRAM all 0xFF."
+    fn new() -> Unit {
+        let lent = Lent {
+            pages: 3,
+            slots: 2,
+            ring: vec![0xFF; 96],
+            fram: vec![0xFF; 128],
+            key: vec![0; 32],
+            nonce: vec![0; 12],
+            starting_tag: vec![0; 16],
+            session: vec![0; session_length(Form::Longer)],
+            packet: 0,
+            open_part: vec![],
+            secret: vec![0; 4],
+            staging: vec![0; 64],
+            state: vec![0; 4096],
+            job: vec![0; job_length(Form::Longer)],
+            secret_len: 0,
+            restarts: 0,
+            open_start: 0,
+            open_len: 0,
+        };
+        Unit { lent, book: Book::new(&[0; 32], 2), session: None, answers: BTreeMap::new() }
+    }
+
+    /// The start's answer. "At the start and after a cut there is no session; a save then prints `refused 6` on a blank
+    /// ring, else `refused 8`."
+    fn start(&mut self, kind: u32, value: u32) -> u32 {
+        let c = &mut self.lent;
+        // "the low 28 bits are the nonce as a 12-byte number, most significant byte first, the packet number and the
+        // single secret word"
+        c.nonce = [[0; 8].to_vec(), value.to_be_bytes().to_vec()].concat();
+        c.packet = value;
+        c.secret = value.to_be_bytes().to_vec();
+        let answer = match (kind, &self.session) {
+            (1, _) => perform(Form::Longer, Operation::FirstSave, c),
+            (2, None) if blank(&c.ring) => 6,
+            (2, None) => 8,
+            (2, Some(session)) => {
+                c.session = session.clone();
+                perform(Form::Longer, Operation::Save, c)
+            }
+            _ => perform(Form::Longer, Operation::PowerUp, c),
+        };
+        if !stopped(answer) {
+            match kind {
+                1 => self.book.first_save(Form::Longer, &c.nonce, &c.starting_tag, c.packet, &c.open_part, &c.secret),
+                2 => self.book.save(Form::Longer, &c.nonce, c.packet, &c.open_part, &c.secret),
+                _ => self.book.power_up(Form::Longer, &c.nonce),
+            }
+        }
+        *self.answers.entry((kind, answer)).or_default() += 1;
+        answer
+    }
+
+    /// The operation, with the cut that is set, and the line that is printed. "A cut at or past the operation's last store,
+    /// or with the operation refused, falls after the operation."
+    fn operate(&mut self, kind: u32, value: u32, cut: Option<u32>) -> String {
+        let answer = self.start(kind, value);
+        if !stopped(answer) {
+            let stores = self.book.to_come().len();
+            for _ in 0..cut.map_or(stores, |cut| stores.min(cut as usize)) {
+                let answer = perform(Form::Longer, Operation::Advance, &mut self.lent);
+                assert!(!stopped(answer));
+                self.book.advance();
+                assert_eq!(answer == GOING_ON, !self.book.to_come().is_empty());
+                if answer != GOING_ON {
+                    self.session = Some(self.lent.session.clone());
+                }
+            }
+        }
+        if cut.is_some() {
+            self.book.cut(Cut::Between);
+            self.session = None;
+        }
+        self.compare();
+        if stopped(answer) {
+            return format!("refused {answer}");
+        }
+        self.line()
+    }
+
+    /// Ringview's line (document 01, "Bench values").
+    fn line(&self) -> String {
+        match read_ring(3, 2, &self.lent.ring) {
+            Reading::WhollyBlank => "blank".into(),
+            Reading::NotReadable => "refused 7".into(),
+            Reading::Newest(newest) => {
+                let pending = newest.pending.map_or("none".into(), |page| page.to_string());
+                let half = ["A", "B"][newest.half];
+                format!("page {} slot {} half {half} pending {pending}", newest.page, newest.slot)
+            }
+        }
+    }
+
+    /// The memories hold what the book has recorded. Records go round the slots, and to A and B in turn.
+    fn compare(&self) {
+        let Some(entry) = &self.book.entry else {
+            assert!(blank(&self.lent.ring));
+            return;
+        };
+        let Reading::Newest(newest) = read_ring(3, 2, &self.lent.ring) else {
+            panic!("something was recorded, and the ring has no newest record");
+        };
+        let last = self.book.n - 1;
+        assert_eq!((newest.page, newest.slot, newest.half), (last / 2 % 3, last % 2, last % 2));
+        assert_eq!(newest.pending.is_some(), self.book.owed);
+        assert_eq!(newest.record[..12], entry.nonce);
+        let sealed = entry.sealed(&self.lent.key);
+        assert_eq!(self.lent.fram[64 * newest.half..][..sealed.len()], sealed);
+        assert_eq!(self.book.power_ups, entry.restarts as usize);
+    }
+}
+
+/// "20 another kind, two cuts in a row, a cut with nothing after it, a broken word or too many words; the whole trace is
+/// checked before the first operation, and `refused 20` is then the only line"
+fn wrong(trace: &[u8]) -> bool {
+    let kinds: Vec<u8> = trace.chunks(4).map(|word| word[0] >> 4).collect();
+    trace.len() % 4 != 0
+        || kinds.len() > 4096
+        || kinds.iter().any(|kind| !(1..=4).contains(kind))
+        || kinds.windows(2).any(|two| two == [4, 4])
+        || kinds.last() == Some(&4)
+}
+
+/// What is to be printed, and how often each operation gave each answer.
+fn expected(trace: &[u8]) -> (String, BTreeMap<(u32, u32), usize>) {
+    if wrong(trace) {
+        return ("refused 20\n".into(), BTreeMap::new());
+    }
+    let mut unit = Unit::new();
+    let mut text = String::new();
+    let mut cut = None;
+    for word in trace.chunks(4) {
+        let word = u32::from_be_bytes(word.try_into().unwrap());
+        let (kind, value) = (word >> 28, word & 0xFFF_FFFF);
+        if kind == 4 {
+            cut = Some(value);
+        } else {
+            writeln!(text, "{}", unit.operate(kind, value, cut.take())).unwrap();
+        }
+    }
+    (text, unit.answers)
+}
+
+/// The program prints what the documents say.
+fn compare(trace: &[u8]) -> BTreeMap<(u32, u32), usize> {
+    let (text, answers) = expected(trace);
+    assert_eq!(printed(trace), text, "for the trace {trace:02x?}");
+    answers
+}
+
+/// Traces with the lines written out by hand. A checkpoint has 52 bytes, so 13 words and a record: 14 stores, 15 with an
+/// erase.
+#[test]
+fn written_by_hand() {
+    let traces: [(&[u32], &[&str]); 9] = [
+        (&[], &[]),
+        // With nothing recorded; a cut before the first store, and one before the record.
+        (
+            &[save(1), power_up(2), cut(0), first_save(3), save(4), cut(13), first_save(5), power_up(6), first_save(7)],
+            &["refused 6", "refused 6", "blank", "refused 6", "blank", "refused 6", "page 0 slot 0 half A pending none"],
+        ),
+        // Round the ring.
+        (
+            &[first_save(1), save(2), save(3), save(4), power_up(5), save(6), save(7)],
+            &[
+                "page 0 slot 0 half A pending none",
+                "page 0 slot 1 half B pending none",
+                "page 1 slot 0 half A pending none",
+                "page 1 slot 1 half B pending none",
+                "page 2 slot 0 half A pending none",
+                "page 2 slot 1 half B pending none",
+                "page 0 slot 0 half A pending none",
+            ],
+        ),
+        // A cut between record and erase leaves a page pending; the next power-up erases it first, and may be cut there.
+        (
+            &[first_save(1), save(2), cut(14), save(3), save(4), cut(0), power_up(5), cut(1), power_up(6), power_up(7)],
+            &[
+                "page 0 slot 0 half A pending none",
+                "page 0 slot 1 half B pending none",
+                "page 1 slot 0 half A pending 0",
+                "refused 8",
+                "page 1 slot 0 half A pending 0",
+                "page 1 slot 0 half A pending none",
+                "page 1 slot 1 half B pending none",
+            ],
+        ),
+        // Before the record, and at and past the last store, after which there is no session.
+        (
+            &[first_save(1), cut(13), save(2), save(3), power_up(4), cut(15), save(5), save(6), power_up(7), cut(0xFFF_FFFF), save(8), save(9)],
+            &[
+                "page 0 slot 0 half A pending none",
+                "page 0 slot 0 half A pending none",
+                "refused 8",
+                "page 0 slot 1 half B pending none",
+                "page 1 slot 0 half A pending none",
+                "refused 8",
+                "page 1 slot 1 half B pending none",
+                "page 2 slot 0 half A pending none",
+                "refused 8",
+            ],
+        ),
+        // A refused operation leaves the session; a cut behind one takes it.
+        (
+            &[first_save(1), first_save(2), save(3), power_up(3), save(4), cut(3), first_save(5), save(6)],
+            &[
+                "page 0 slot 0 half A pending none",
+                "refused 5",
+                "page 0 slot 1 half B pending none",
+                "refused 10",
+                "page 1 slot 0 half A pending none",
+                "refused 5",
+                "refused 8",
+            ],
+        ),
+        // A nonce is refused while a record of the newest page has it.
+        (
+            &[first_save(1), save(1), save(2), save(1), save(2), save(1), power_up(2), power_up(1)],
+            &[
+                "page 0 slot 0 half A pending none",
+                "refused 10",
+                "page 0 slot 1 half B pending none",
+                "refused 10",
+                "refused 10",
+                "refused 10",
+                "refused 10",
+                "refused 10",
+            ],
+        ),
+        // Eight restarts, and a save with a newer packet number.
+        (
+            &[
+                first_save(1),
+                power_up(2),
+                power_up(3),
+                power_up(4),
+                power_up(5),
+                power_up(6),
+                power_up(7),
+                power_up(8),
+                power_up(9),
+                power_up(10),
+                save(11),
+                power_up(12),
+            ],
+            &[
+                "page 0 slot 0 half A pending none",
+                "page 0 slot 1 half B pending none",
+                "page 1 slot 0 half A pending none",
+                "page 1 slot 1 half B pending none",
+                "page 2 slot 0 half A pending none",
+                "page 2 slot 1 half B pending none",
+                "page 0 slot 0 half A pending none",
+                "page 0 slot 1 half B pending none",
+                "page 1 slot 0 half A pending none",
+                "refused 13",
+                "page 1 slot 1 half B pending none",
+                "page 2 slot 0 half A pending none",
+            ],
+        ),
+        // A save with an older packet number leaves the restarts.
+        (
+            &[
+                first_save(50),
+                power_up(2),
+                power_up(3),
+                power_up(4),
+                power_up(5),
+                power_up(6),
+                power_up(7),
+                power_up(8),
+                power_up(9),
+                save(49),
+                power_up(12),
+            ],
+            &[
+                "page 0 slot 0 half A pending none",
+                "page 0 slot 1 half B pending none",
+                "page 1 slot 0 half A pending none",
+                "page 1 slot 1 half B pending none",
+                "page 2 slot 0 half A pending none",
+                "page 2 slot 1 half B pending none",
+                "page 0 slot 0 half A pending none",
+                "page 0 slot 1 half B pending none",
+                "page 1 slot 0 half A pending none",
+                "page 1 slot 1 half B pending none",
+                "refused 13",
+            ],
+        ),
+    ];
+    for (words, lines) in traces {
+        let text: String = lines.iter().map(|line| format!("{line}\n")).collect();
+        assert_eq!(printed(&bytes(words)), text, "for the trace {words:08x?}");
+        assert_eq!(expected(&bytes(words)).0, text, "for the trace {words:08x?}");
+    }
+}
+
+/// Stop 20, before any line.
+#[test]
+fn wrong_traces() {
+    let good = [first_save(1), cut(3), save(2), power_up(3)];
+    let with = |at: usize, word: u32| {
+        let mut words = good.to_vec();
+        words.insert(at, word);
+        bytes(&words)
+    };
+    for at in 0..=good.len() {
+        for kind in [0, 5, 6, 8, 12, 15] {
+            assert_eq!(printed(&with(at, kind << 28 | 7)), "refused 20\n");
+        }
+    }
+    // Two cuts in a row, and a cut with nothing after it.
+    for at in [1, 2, 4] {
+        assert_eq!(printed(&with(at, cut(1))), "refused 20\n");
+    }
+    assert_eq!(printed(&bytes(&[cut(0)])), "refused 20\n");
+    // A broken word.
+    let whole = bytes(&good);
+    for length in 0..=whole.len() {
+        let text = printed(&whole[..length]);
+        let broken = length % 4 != 0 || length == 8;
+        assert_eq!(text == "refused 20\n", broken, "with {length} bytes");
+        assert_eq!(text.lines().count(), if broken { 1 } else { [0, 1, 1, 2, 3][length / 4] });
+    }
+    // Too many words.
+    let mut longest = vec![first_save(1)];
+    longest.resize(4096, save(2));
+    assert_eq!(printed(&bytes(&longest)).lines().count(), 4096);
+    for more in [1, 4, 5, 100_000] {
+        let mut trace = bytes(&longest);
+        trace.resize(trace.len() + more, 0x20);
+        assert_eq!(printed(&trace), "refused 20\n");
+    }
+}
+
+/// The values of a trace's operations: all different, or few, so that nonces repeat and packet numbers fall.
+fn values(random: &mut Random, differ: bool) -> Vec<u32> {
+    let few = random.pick(&[2, 3, 8]);
+    let mut values: Vec<u32> = match differ {
+        false => (0..400).map(|_| random.below(few) as u32).collect(),
+        true => (0..400).map(|i| i * random.pick(&[1, 1 << 8, 1 << 19])).collect(),
+    };
+    if differ {
+        values.sort();
+        values.dedup();
+        // Some traces have falling numbers, so that saves keep their restarts.
+        match random.below(3) {
+            0 => values.reverse(),
+            1 => values.sort_by_key(|_| random.next()),
+            _ => (),
+        }
+    }
+    values
+}
+
+fn generated(random: &mut Random, differ: bool) -> Vec<u32> {
+    let mut values = values(random, differ).into_iter();
+    let length = 1 + random.below(80);
+    let (saves, cuts) = (random.pick(&[5, 30, 70]), random.pick(&[0, 10, 40]));
+    let mut words = vec![];
+    if random.chance(9, 10) {
+        words.push(first_save(values.next().unwrap()));
+    }
+    while words.len() < length {
+        if random.chance(cuts, 100) {
+            // Mostly near the end, where record and erases are.
+            let stores = if random.chance(1, 2) { 12 + random.below(6) } else { random.below(20) };
+            words.push(cut(if random.chance(1, 20) { 0xFFF_FFFF } else { stores as u32 }));
+        }
+        let value = values.next().unwrap();
+        words.push(match random.below(100) {
+            0..5 => first_save(value),
+            n if n < 5 + saves => save(value),
+            _ => power_up(value),
+        });
+    }
+    words
+}
+
+/// Random traces whose nonces all differ, of which the cut rule speaks, and others whose nonces repeat. Every answer that
+/// a trace can get occurs.
+#[test]
+fn random_traces() {
+    for (differ, answers) in [
+        (true, [(1, 0), (1, 5), (2, 0), (2, 6), (2, 8), (3, 0), (3, 6), (3, 13)].as_slice()),
+        (false, &[(1, 0), (1, 5), (2, 0), (2, 6), (2, 8), (2, 10), (3, 0), (3, 6), (3, 10), (3, 13)]),
+    ] {
+        let mut random = Random::new(if differ { 51 } else { 52 });
+        let mut given = BTreeMap::new();
+        for _ in 0..400 {
+            let words = generated(&mut random, differ);
+            let mut trace = bytes(&words);
+            if random.chance(1, 20) {
+                let at = random.below(trace.len());
+                trace[at] = random.next() as u8;
+            }
+            given.append(&mut compare(&trace));
+        }
+        assert_eq!(given.keys().copied().collect::<Vec<_>>(), answers);
+    }
+}
+
+/// "Long traces run in linear time".
+#[test]
+fn longest_traces() {
+    let mut random = Random::new(53);
+    let mut words = vec![first_save(0)];
+    words.extend((1..4096).map(|i| if random.chance(1, 2) { save(i) } else { power_up(i) }));
+    let cut_often: Vec<u32> =
+        (0..4096).map(|i| if i % 2 == 0 { cut(random.pick(&[3, 15, 0xFFF_FFFF])) } else { power_up(i) }).collect();
+    for words in [words, [vec![first_save(4096)], cut_often[..4094].to_vec()].concat()] {
+        let trace = bytes(&words);
+        let start = Instant::now();
+        let text = printed(&trace);
+        assert!(start.elapsed() < Duration::from_secs(1));
+        assert_eq!(text, expected(&trace).0);
+    }
+}
