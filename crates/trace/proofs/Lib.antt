@@ -5,3 +5,4 @@ pub mod Moves
 pub mod Stepping
 pub mod Outcomes
 pub mod Ruled
+pub mod Ends

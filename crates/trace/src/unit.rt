@@ -109,7 +109,8 @@ fn store_on(moved: Advanced, n: usize, ring: &mut [u8], fram: &mut [u8], staging
     ensures { λ r. ⌜ view-advanced r (now (ring .exit)) (now (fram .exit)) ≡ stored-on n (now (staging .entry)) (view-advanced moved (now (ring .entry)) (now (fram .entry))) ⌝ }
 {
     let mut moved = moved;
-    for _ in 0..n {
+    let mut made = 0;
+    while made < n {
         let progress = moved.progress;
         if is_going(progress) {
             let job = moved.job;
@@ -118,6 +119,7 @@ fn store_on(moved: Advanced, n: usize, ring: &mut [u8], fram: &mut [u8], staging
         } else {
             return moved;
         }
+        made += 1;
     }
     moved
 }
@@ -167,10 +169,11 @@ impl Unit {
     fn session_after(self, moved: Advanced) -> Held
         ensures { λ r. ⌜ ((ring fram : List ℕ) → view-held r ≡ session-after (view-cut self) (view-advanced moved ring fram) (view-held (self .held))) ⌝ }
     {
-        if self.cut {
-            return no_held();
-        }
+        let nothing = no_held();
         let held = self.held;
+        if self.cut {
+            return nothing;
+        }
         let session = moved.session;
         let progress = moved.progress;
         match progress {

@@ -12,12 +12,12 @@ use Rattle.trace.proofs.unit.store_on.Statement.{statement}
 use Rattle.trace.proofs.unit.store_on.Tie as tie
 
 abbrev Inv-loop : tie.InvT-loop
-Inv-loop n ring₀ fram₀ staging moved₀ counter₀ ring fram moved counter =
+Inv-loop n ring₀ fram₀ staging moved₀ made₀ ring fram moved made =
     (length ring ≡ length ring₀) × (length fram ≡ length fram₀)
-    × (stored-on (n - counter) staging (view-advanced moved ring fram) ≡ stored-on n staging (view-advanced moved₀ ring₀ fram₀))
+    × (stored-on (n - made) staging (view-advanced moved ring fram) ≡ stored-on n staging (view-advanced moved₀ ring₀ fram₀))
 
 abbrev μ-loop : tie.MeasureT-loop
-μ-loop n ring₀ fram₀ staging moved₀ counter₀ ring fram moved counter = n - counter
+μ-loop n ring₀ fram₀ staging moved₀ made₀ ring fram moved made = n - made
 
 loop-holds : tie.Need-loop-holds Inv-loop μ-loop
 loop-holds c = (refl, refl, store-first _ _ _)
@@ -34,13 +34,13 @@ loop-again c =
     let loop = test .before .before .before in (
       search needs,
       search needs,
-      sym (store-next _ (loop .loop .counter) _ _ _ (test .before .before .loop-test .taken) (sym (test .before .is-going .ensures) ∙ test .if1 .taken) (called .advance .ensures)) ∙ loop .loop .inv .2,
+      sym (store-next _ (loop .loop .made) _ _ _ (test .before .before .loop-test .taken) (sym (test .before .is-going .ensures) ∙ test .if1 .taken) (called .advance .ensures)) ∙ loop .loop .inv .2,
     )
 
 returns-2 : tie.Need-returns-2 Inv-loop μ-loop
 returns-2 c =
     let loop = c .before in
-    sym (store-last _ (loop .loop .counter) _ _ (omega arith)) ∙ loop .loop .inv .2
+    sym (store-last _ (loop .loop .made) _ _ (omega arith)) ∙ loop .loop .inv .2
 
 pub store-on-spec : {M : Type 1} → statement M
 store-on-spec =
