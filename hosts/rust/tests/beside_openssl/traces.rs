@@ -411,7 +411,7 @@ fn values(random: &mut Random, differ: bool) -> Vec<u32> {
         // Some traces have falling numbers, so that saves keep their restarts.
         match random.below(3) {
             0 => values.reverse(),
-            1 => values.sort_by_key(|_| random.next()),
+            1 => values.sort_by_cached_key(|_| random.next()),
             _ => (),
         }
     }
