@@ -1,19 +1,23 @@
 -- What running a trace comes to, by its check. Assumes nothing.
 use Prim.Native.Nat.{ℕ, _*_, _%_, _≤_}
-use mathlib.Core.Path.{_≡_, sym, ap, _∙_}
-use mathlib.Core.Bool.{false, not, _||_}
+use mathlib.Core.Path.{_≡_, refl, sym, ap, subst, _∙_}
+use mathlib.Core.Bool.{Bool, true, false, not, cond, _||_}
 use mathlib.Core.Option.{Option, none, some}
 use mathlib.Core.List.{List}
+use native.Mathlib.Omega.{arith}
 use lib.Dec.{eqb, ltb}
 use lib.ListN.{length}
-use borrow.Author.Tests.{eqb-true, ltb-false, not-false}
+use borrow.Author.Tests.{eq-eqb, le-ltb, eqb-true, ltb-false, not-false}
 use Rattle.octets.specs.Limits.{trace-limit}
+use Rattle.octets.specs.Octets.{put}
+use Rattle.stops.specs.Stops.{first-of}
 use Rattle.stops.specs.View.{stop-number, check-number}
 use Rattle.stops.specs.declared.Check.{Check}
 use Rattle.stops.specs.declared.Check.the-variants.{Stopped}
 use Rattle.stops.specs.declared.Stop.{Stop}
 use Rattle.stops.proofs.Laws.{passes, neither}
-use Rattle.trace.specs.Trace.{ring-length, fram-length, text-length, words-of, words-wrong, trace-wrong, Run, trace-stop, run-by, run-trace}
+use Rattle.ring_line.specs.Text.{refused-line}
+use Rattle.trace.specs.Trace.{ring-length, fram-length, text-length, words-of, words-wrong, trace-wrong, Run, trace-stop, run-by, run-trace, output}
 use Rattle.trace.specs.View.{Ran}
 
 module _ (trace ring fram text : List ℕ) where
@@ -40,3 +44,31 @@ module _ (trace ring fram text : List ℕ) where
   passed-run ring′ fram′ text′ n e r =
       (λ i. record { stop = none; written = r .long i; ring = r .ring i; fram = r .fram i; text = r .lines-put i })
       ∙ sym (ap (λ (o : Option ℕ). run-by o trace ring fram text) e)
+
+-- ---- what is printed
+
+-- what a run in buffers of the right lengths leaves to print
+pub record Prints (trace text : List ℕ) (r : Run) : Type 0 where
+  pub ran : r .stop ≡ none → (r .text ≡ put text 0 (output trace)) × (r .written ≡ length (output trace))
+  pub refused : (n : ℕ) → r .stop ≡ some n → (r .text ≡ text) × (refused-line n ≡ output trace)
+
+module _ (trace ring fram text : List ℕ) (lr : length ring ≡ ring-length) (lf : length fram ≡ fram-length) (lt : text-length ≤ length text) where
+  stop-is : trace-stop trace ring fram text ≡ cond (trace-wrong trace) (some 20) none
+  unfolding trace-stop first-of
+  stop-is = rw (eq-eqb (length ring) ring-length lr, eq-eqb (length fram) fram-length lf, le-ltb (length text) text-length lt)
+
+  prints-by : (b : Bool) → trace-wrong trace ≡ b → Prints trace text (run-by (cond b (some 20) none) trace ring fram text)
+  unfolding run-by output
+  prints-by true e = record {
+    ran = λ q. absurd (let z : _≡_ {A = ℕ} 0 1 = cc in omega arith);
+    refused = λ n q. (refl, let z : n ≡ 20 = cc in rw (e, z));
+  }
+  prints-by false e = record {
+    ran = λ q. (rw e, rw e);
+    refused = λ n q. absurd (let z : _≡_ {A = ℕ} 0 1 = cc in omega arith);
+  }
+
+  pub prints : (r : Run) → r ≡ run-trace trace ring fram text → Prints trace text r
+  unfolding run-trace
+  prints r e =
+      subst (λ (y : Run). Prints trace text y) (sym (e ∙ ap (λ (o : Option ℕ). run-by o trace ring fram text) stop-is)) (prints-by (trace-wrong trace) refl)

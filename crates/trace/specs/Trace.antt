@@ -225,3 +225,7 @@ run-by none trace ring fram text =
 
 unfoldable pub run-trace : (trace ring fram text : List ℕ) → Run
 run-trace trace ring fram text = run-by (trace-stop trace ring fram text) trace ring fram text
+
+-- what the program prints: a trace's lines, or of one that is wrong only its refusal
+unfoldable pub output : List ℕ → List ℕ
+output trace = cond (trace-wrong trace) (refused-line 20) (lines blank-bench (words-of trace))
