@@ -1,6 +1,6 @@
 -- Without a cut an operation runs to its end (document 02, A.4): no job makes more stores than `most-stores`. Assumes nothing.
-use Prim.Native.Nat.{ℕ, zero, suc, _+_, _-_, _*_, _/_, _%_, _≤_, _<_}
-use mathlib.Core.Path.{_≡_, refl, sym, ap, subst, _∙_}
+use Prim.Native.Nat.{ℕ, zero, suc, _+_, _*_, _/_, _%_, _≤_, _<_}
+use mathlib.Core.Path.{_≡_, refl, ap, _∙_}
 use mathlib.Core.Bool.{Bool, true, false, not, cond, _||_}
 use mathlib.Core.Logic.{_⊎_, inl, inr}
 use mathlib.Core.Option.{Option, none, some}
@@ -15,82 +15,14 @@ use Rattle.stops.proofs.Laws.{passes, neither}
 use Rattle.ring.specs.Ring.{page-before}
 use Rattle.checkpoint.specs.Fram.{half-length}
 use Rattle.checkpoint.specs.Checkpoint.{Longer, empty-length}
-use Rattle.protocol.specs.Types.{Phase, EraseFirst, Words, Record, EraseAfter, Done, Origin, Save, PowerUp, Job}
+use Rattle.protocol.specs.Types.{Phase, EraseFirst, Words, Record, EraseAfter, Done, Job}
 use Rattle.protocol.specs.Calls.{Sizes, Advances}
-use Rattle.protocol.specs.Operations.{staging-wrong, Moved, in-phase, phase-wrong, job-wrong, going-on, finished, ended, stored-word, recorded, erase-follows, after-record, store, advance-stop, advance-by, advance}
+use Rattle.protocol.specs.Operations.{staging-wrong, Moved, in-phase, phase-wrong, job-wrong, going-on, ended, stored-word, recorded, erase-follows, after-record, store, advance-stop, advance-by, advance}
 use Rattle.protocol.specs.Recovery.{is-going}
-use Rattle.protocol.proofs.Facts.{no-fact}
 use Rattle.protocol.proofs.Advancing.{job-passes}
 use Rattle.protocol.proofs.Sequence.{words-in-order}
-use Rattle.trace.specs.Trace.{value, is-cut, bench-sizes, fram-length, staging-room, start, started, stored-on, most-stores, stores-until, Bench, operation, operated, cut-set, step, after, blank-bench}
-use Rattle.trace.proofs.Moves.{stored-still, stored-more}
-
--- the stores that a job of so many bytes still has, at most
-unfoldable left : Phase → ℕ → ℕ
-left (EraseFirst p) n = n / 4 + 3
-left (Words w) n = n / 4 - w + 2
-left Record n = 2
-left (EraseAfter p) n = 1
-left Done n = 0
-
-abbrev left-of : Job → ℕ
-left-of j = left (j .phase) (j .length)
-
-left-most : (p : Phase) (n : ℕ) → left p n ≤ n / 4 + 3
-unfolding left
-left-most (EraseFirst p) n = omega arith
-left-most (Words w) n = omega arith
-left-most Record n = omega arith
-left-most (EraseAfter p) n = omega arith
-left-most Done n = omega arith
-
--- ---- an advance that goes on
-
-not-finished : (o : Origin) → is-going (finished o) ≡ false
-unfolding finished is-going
-not-finished Save = refl
-not-finished PowerUp = refl
-
--- a job with fewer stores, and one at least
-abbrev Fewer : Job → Job → Type 0
-Fewer j k = (1 ≤ left-of k) × (suc (left-of k) ≤ left-of j)
-
-picked : (b : Bool) (x y : Moved) (j : Job) → Fewer j (x .job) → is-going (y .progress) ≡ false → is-going (cond b x y .progress) ≡ true → Fewer j (cond b x y .job)
-picked true x y j f e g = f
-picked false x y j f e g = no-fact (sym g ∙ e)
-
-module _ (ring fram : List ℕ) (a : Advances) (s : advance-stop Longer ring fram a ≡ none) where
-  stores-is : (p : Phase) → a .job .phase ≡ p → advance Longer ring fram a ≡ store p ring fram a
-  unfolding advance advance-by
-  stores-is p e = rw (s, e)
-
-  after-words : (w : ℕ) → a .job .phase ≡ Words w → Fewer (a .job) (advance Longer ring fram a .job)
-  unfolding left in-phase
-  after-words w e = go (words-in-order Longer ring fram a w e s)
-    where
-      before : left-of (a .job) ≡ a .job .length / 4 - w + 2
-      before = ap (λ (p : Phase). left p (a .job .length)) e
-
-      go : ((4 * (w + 1) < a .job .length) × (advance Longer ring fram a .job ≡ in-phase (a .job) (Words (w + 1))))
-          ⊎ ((4 * (w + 1) ≡ a .job .length) × (advance Longer ring fram a .job ≡ in-phase (a .job) Record))
-          → Fewer (a .job) (advance Longer ring fram a .job)
-      go (inl (h, f)) = let g : left-of (advance Longer ring fram a .job) ≡ a .job .length / 4 - (w + 1) + 2 = ap left-of f in (omega (arith, g), omega (arith, g, before, h))
-      go (inr (h, f)) = let g : left-of (advance Longer ring fram a .job) ≡ 2 = ap left-of f in (omega (arith, g), omega (arith, g, before, h))
-
-  after-store : (p : Phase) → a .job .phase ≡ p → is-going (store p ring fram a .progress) ≡ true → Fewer (a .job) (store p ring fram a .job)
-  unfolding store going-on in-phase left after-record ended
-  after-store (EraseFirst p) e g = let before : left-of (a .job) ≡ a .job .length / 4 + 3 = ap (λ (p : Phase). left p (a .job .length)) e in (omega arith, omega (arith, before))
-  after-store (Words w) e g = subst (λ (m : Moved). Fewer (a .job) (m .job)) (stores-is (Words w) e) (after-words w e)
-  after-store Record e g =
-      let before : left-of (a .job) ≡ 2 = ap (λ (p : Phase). left p (a .job .length)) e in
-      picked (erase-follows (recorded ring (a .sizes .slots) (a .job)) (a .sizes) (a .job)) _ _ (a .job) (omega arith, omega (arith, before)) (not-finished (a .job .origin)) g
-  after-store (EraseAfter p) e g = no-fact (sym g ∙ not-finished (a .job .origin))
-  after-store Done e g = no-fact (sym g ∙ not-finished (a .job .origin))
-
-  advance-fewer : is-going (advance Longer ring fram a .progress) ≡ true → Fewer (a .job) (advance Longer ring fram a .job)
-  advance-fewer g =
-      let e = stores-is (a .job .phase) refl in
-      subst (λ (m : Moved). Fewer (a .job) (m .job)) (sym e) (after-store (a .job .phase) refl (ap (λ (m : Moved). is-going (m .progress)) (sym e) ∙ g))
+use Rattle.trace.specs.Trace.{value, is-cut, bench-sizes, fram-length, bench-staging, start, started, stored-on, most-stores, stores-until, Bench, operation, operated, cut-set, step, after, blank-bench}
+use Rattle.trace.proofs.Stores.{left-of, left-most, advance-fewer, refused-still, stored-still, stored-more}
 
 -- ---- all of its stores
 
@@ -99,10 +31,6 @@ call-of staging m = record { sizes = bench-sizes; job = m .job; staging = stagin
 
 abbrev next : List ℕ → Moved → Moved
 next staging m = advance Longer (m .ring) (m .fram) (call-of staging m)
-
-refused-still : (ring fram : List ℕ) (a : Advances) (x : ℕ) → advance-stop Longer ring fram a ≡ some x → is-going (advance Longer ring fram a .progress) ≡ false
-unfolding advance advance-by is-going
-refused-still ring fram a x e = rw e
 
 -- n stores are enough for a job that is not refused at once and has no more
 abbrev Ends : List ℕ → ℕ → Type 0
@@ -218,15 +146,19 @@ stored-kept zero staging m = refl
 stored-kept (suc n) staging m =
     kept-if (is-going (m .progress)) (stored-on n staging (next staging m)) m (stored-kept n staging (next staging m) ∙ advance-kept (m .ring) (m .fram) (call-of staging m))
 
+pub operation-kept : (b : Bench) (w : ℕ) → length (operation b w .fram) ≡ length (b .fram)
+unfolding operation started
+operation-kept b w =
+    let s = start (b .ring) (b .fram) (b .session) w bench-staging in
+    stored-kept (stores-until (b .cut)) (s .staging) (started (b .ring) (b .fram) s)
+
 step-kept : (b : Bench) (w : ℕ) → length (step b w .fram) ≡ length (b .fram)
-unfolding step cut-set operated operation started
+unfolding step cut-set operated
 step-kept b w = go (is-cut w)
   where
     go : (c : Bool) → length (cond c (cut-set b (value w)) (operated b w) .fram) ≡ length (b .fram)
     go true = refl
-    go false =
-        let s = start (b .ring) (b .fram) (b .session) w staging-room in
-        stored-kept (stores-until (b .cut)) (s .staging) (started (b .ring) (b .fram) s)
+    go false = operation-kept b w
 
 after-kept : (words : List ℕ) (b : Bench) → length (after b words .fram) ≡ length (b .fram)
 unfolding after
@@ -238,7 +170,7 @@ after-kept (w ∷ more) b = after-kept more (step b w) ∙ step-kept b w
 runs-on : (b : Bench) (w : ℕ) → length (b .fram) ≡ fram-length → b .cut ≡ none → is-going (operation b w .progress) ≡ false
 unfolding operation started stores-until half-length
 runs-on b w l c =
-    let s = start (b .ring) (b .fram) (b .session) w staging-room in
+    let s = start (b .ring) (b .fram) (b .session) w bench-staging in
     let m = started (b .ring) (b .fram) s in
     ap (λ (o : Option ℕ). is-going (stored-on (stores-until o) (s .staging) m .progress)) c
     ∙ ends (s .staging) most-stores m (omega arith)

@@ -120,7 +120,7 @@ one-more trace text₀ k n w b text text′ ring′ fram′ at r h e s t =
     let words : words-from trace k (n - k) ≡ w ∷ rest = next-word trace k n h ∙ ap (λ (y : ℕ). y ∷ rest) (sym e) in
     record {
       done = s .done ++ printed b w;
-      written = t .written ∙ ap (λ (y : List ℕ). put y at (printed b w)) (s .written) ∙ put-on text₀ (s .done) (printed b w) 0 at (omega (arith, s .ends)) (omega arith);
+      written = t .line-put ∙ ap (λ (y : List ℕ). put y at (printed b w)) (s .written) ∙ put-on text₀ (s .done) (printed b w) 0 at (omega (arith, s .ends)) (omega arith);
       ends = omega (arith, s .ends, t .ends, length-append (s .done) (printed b w));
       room = omega (arith, s .room, t .short, length-append (s .done) (printed b w));
       left = ap (λ (y : Bench). after y rest) (t .unit) ∙ sym (ap (after b) words) ∙ s .left;

@@ -1,44 +1,39 @@
 -- The stores of an operation beside the advances of a list: both go on together. Assumes nothing.
-use Prim.Native.Nat.{ℕ, zero, suc}
+use Prim.Native.Nat.{ℕ, zero, suc, _≤_}
 use mathlib.Core.Path.{_≡_, refl, sym, ap, subst, _∙_}
 use mathlib.Core.Bool.{Bool, true, false, cond}
 use mathlib.Core.Logic.{inr}
 use mathlib.Core.Option.{Option, none, some}
 use mathlib.Core.List.{List, [], _∷_, List·Memᴰ, List·Memᴰ·head, List·Memᴰ·tail}
 use native.Mathlib.Omega.{arith}
-use Rattle.checkpoint.specs.Checkpoint.{Longer}
-use Rattle.protocol.specs.Types.{Session, Progress, GoingOn, Saved, Restored, Refused}
+use Rattle.checkpoint.specs.Checkpoint.{Longer, Checkpoint}
+use Rattle.protocol.specs.Types.{Session, Origin, Phase, EraseFirst, Words, Record, EraseAfter, Done, Progress, GoingOn, Saved, Restored, Refused}
 use Rattle.protocol.specs.Calls.{Event, advanced-by}
 use Rattle.protocol.specs.Operations.{Moved, advance}
-use Rattle.protocol.specs.Journal.{Journal, entered}
+use Rattle.protocol.specs.Journal.{Store, Journal, entered}
 use Rattle.protocol.specs.History as history
-use Rattle.protocol.specs.History.{State, Handed, moved, left-by, refused, run, Keeps, Allowed}
+use Rattle.protocol.specs.History.{State, Handed, moved, left-by, is-stopped, refused, run, Keeps, Allowed}
 use Rattle.protocol.specs.Recovery.{is-going, with-handed}
-use Rattle.trace.specs.Trace.{bench-sizes, stored-on, handed}
+use Rattle.protocol.proofs.Invariant.{Doing, Holds, Moving}
+use Rattle.protocol.proofs.Advances.{erasing-first, writing}
+use Rattle.protocol.proofs.Records.{recording}
+use Rattle.protocol.proofs.Advancing.{erasing-after, hold-advanced}
+use Rattle.protocol.proofs.Advancing as advancing
+use Rattle.trace.specs.Trace.{bench-sizes, stored-on, session-from}
+use Rattle.trace.proofs.Stores.{left, left-of, stored-still, stored-more, store-to-come}
 use Rattle.trace.specs.Rule.{bench-setup, advance-of, advances-while}
-
--- ---- stores
-
-pub stored-still : (n : ℕ) (staging : List ℕ) (m : Moved) → is-going (m .progress) ≡ false → stored-on n staging m ≡ m
-unfolding stored-on
-stored-still zero staging m e = refl
-stored-still (suc n) staging m e = rw e
-
-pub stored-more : (n : ℕ) (staging : List ℕ) (m : Moved) → is-going (m .progress) ≡ true
-    → stored-on (suc n) staging m ≡ stored-on n staging (advance Longer (m .ring) (m .fram) (record { sizes = bench-sizes; job = m .job; staging = staging }))
-unfolding stored-on
-stored-more n staging m e = rw e
 
 -- ---- beside them, the list
 
--- t′ comes after t in a list, and has the memories and the session of m
+-- t′ comes after t in a list, and has the memories and the session of m, which no stop ended
 pub record Beside (m : Moved) (t t′ : State) : Type 0 where
   pub ring : t′ .ring ≡ m .ring
   pub fram : t′ .fram ≡ m .fram
   pub form : t′ .form ≡ Longer
   pub nonces : t′ .nonces ≡ t .nonces
   pub kept : (z : Session) → List·Memᴰ z (t .sessions) → List·Memᴰ z (t′ .sessions)
-  pub new : (z : Session) → handed (m .progress) (m .session) none ≡ some z → List·Memᴰ z (t′ .sessions)
+  pub new : (z : Session) → session-from (m .progress) (m .session) none ≡ some z → List·Memᴰ z (t′ .sessions)
+  pub unrefused : is-stopped (m .progress) ≡ false
 
 -- the job of m is handed out last in t
 pub record Out (m : Moved) (staging : List ℕ) (t : State) (h : Handed) : Type 0 where
@@ -49,6 +44,8 @@ pub record Out (m : Moved) (staging : List ℕ) (t : State) (h : Handed) : Type 
   pub job : h .job ≡ m .job
   pub lent : h .staging ≡ staging
   pub going : m .progress ≡ GoingOn
+  pub holds : Holds bench-setup t
+  pub to-come : 1 ≤ left-of (h .job)
 
 some-is : (z y : Session) → some y ≡ some z → z ≡ y
 some-is z y e = cc
@@ -57,9 +54,9 @@ some-is z y e = cc
 not-some : (z : Session) → none ≡ some z → ⊥
 not-some z q = let y : _≡_ {A = ℕ} 0 1 = cc in omega arith
 
-none-handed : (p : Progress) (new z : Session) → p ≡ GoingOn → handed p new none ≡ some z → ⊥
-unfolding handed
-none-handed p new z e k = not-some z (ap (λ (q : Progress). handed q new none) (sym e) ∙ k)
+none-handed : (p : Progress) (new z : Session) → p ≡ GoingOn → session-from p new none ≡ some z → ⊥
+unfolding session-from
+none-handed p new z e k = not-some z (ap (λ (q : Progress). session-from q new none) (sym e) ∙ k)
 
 -- the answer to an advance of the job, and what it leaves
 abbrev answer : State → Handed → Moved
@@ -80,33 +77,52 @@ next-is : (t : State) (h : Handed) (p : Progress) → answer t h .progress ≡ p
 unfolding history.step left-by
 next-is t h p e = ap (λ (q : Progress). moved t q (answer t h) (h .staging) (journal t h)) e
 
+-- an advance of a job that has a store to come does not stop
+unstopped : {t : State} {a : Progress} {c : Checkpoint} {origin : Origin} {rest : List Store} → Moving bench-setup t a c origin rest → is-stopped a ≡ false
+unstopped {origin = origin} {rest = rest} m = ap is-stopped (m .answered) ∙ advancing.going origin rest
+
+not-refused-in : (t : State) (h : Handed) (inv : Holds bench-setup t) → 1 ≤ left-of (h .job) → (p : Phase) → h .job .phase ≡ p → Doing bench-setup t h p
+    → is-stopped (answer t h .progress) ≡ false
+unfolding left
+not-refused-in t h inv l (EraseFirst p) q x = unstopped (erasing-first bench-setup t h inv p q x)
+not-refused-in t h inv l (Words w) q x = unstopped (writing bench-setup t h inv w q x)
+not-refused-in t h inv l Record q x = unstopped (recording inv x q)
+not-refused-in t h inv l (EraseAfter p) q x = unstopped (erasing-after bench-setup t h inv p q x)
+not-refused-in t h inv l Done q x = absurd (omega (arith, ap (λ (p : Phase). left p (h .job .length)) q, l))
+
+not-refused : (t : State) (h : Handed) → Holds bench-setup t → t .handed ≡ some h → 1 ≤ left-of (h .job) → is-stopped (answer t h .progress) ≡ false
+not-refused t h inv e l = not-refused-in t h inv l (h .job .phase) refl (inv .doing h e)
+
 -- what an advance leaves, by what it answers
-beside-next : (t : State) (h : Handed) (p : Progress) → t .form ≡ Longer → answer t h .progress ≡ p → Beside (answer t h) t (moved t p (answer t h) (h .staging) (journal t h))
-unfolding moved handed
-beside-next t h GoingOn f e = record { ring = refl; fram = refl; form = f; nonces = refl; kept = λ z m. m; new = λ z k. absurd (none-handed _ _ z e k) }
-beside-next t h Saved f e = record {
+beside-next : (t : State) (h : Handed) (p : Progress) → t .form ≡ Longer → is-stopped (answer t h .progress) ≡ false → answer t h .progress ≡ p → Beside (answer t h) t (moved t p (answer t h) (h .staging) (journal t h))
+unfolding moved session-from
+beside-next t h GoingOn f g e = record { ring = refl; fram = refl; form = f; nonces = refl; kept = λ z m. m; new = λ z k. absurd (none-handed _ _ z e k); unrefused = g }
+beside-next t h Saved f g e = record {
   ring = refl;
   fram = refl;
   form = f;
   nonces = refl;
   kept = λ z m. List·Memᴰ·tail m;
-  new = λ z k. List·Memᴰ·head (some-is z _ (sym (ap (λ (q : Progress). handed q (answer t h .session) none) e) ∙ k));
+  new = λ z k. List·Memᴰ·head (some-is z _ (sym (ap (λ (q : Progress). session-from q (answer t h .session) none) e) ∙ k));
+  unrefused = g;
 }
-beside-next t h Restored f e = record {
+beside-next t h Restored f g e = record {
   ring = refl;
   fram = refl;
   form = f;
   nonces = refl;
   kept = λ z m. List·Memᴰ·tail m;
-  new = λ z k. List·Memᴰ·head (some-is z _ (sym (ap (λ (q : Progress). handed q (answer t h .session) none) e) ∙ k));
+  new = λ z k. List·Memᴰ·head (some-is z _ (sym (ap (λ (q : Progress). session-from q (answer t h .session) none) e) ∙ k));
+  unrefused = g;
 }
-beside-next t h (Refused n) f e = record {
+beside-next t h (Refused n) f g e = record {
   ring = refl;
   fram = refl;
   form = f;
   nonces = refl;
   kept = λ z m. m;
-  new = λ z k. absurd (not-some z (sym (ap (λ (q : Progress). handed q (answer t h .session) none) e) ∙ k));
+  new = λ z k. absurd (not-some z (sym (ap (λ (q : Progress). session-from q (answer t h .session) none) e) ∙ k));
+  unrefused = g;
 }
 
 -- two stretches of a list
@@ -118,6 +134,7 @@ beside-on a b = record {
   nonces = b .nonces ∙ a .nonces;
   kept = λ z k. b .kept z (a .kept z k);
   new = b .new;
+  unrefused = b .unrefused;
 }
 
 -- the advances beside at most n stores
@@ -127,7 +144,7 @@ Moves n staging m t =
 
 module _ (staging : List ℕ) where
   moves-zero : (m : Moved) (t : State) (h : Handed) → Out m staging t h → Moves zero staging m t
-  unfolding advances-while stored-on run Allowed
+  unfolding advances-while stored-on run Allowed is-stopped
   moves-zero m t h o = (
     tt,
     record {
@@ -137,6 +154,7 @@ module _ (staging : List ℕ) where
       nonces = refl;
       kept = λ z k. k;
       new = λ z k. absurd (none-handed _ _ z (o .going) k);
+      unrefused = ap is-stopped (o .going);
     },
   )
 
@@ -154,6 +172,9 @@ module _ (staging : List ℕ) where
     unfolding Keeps
     handed-out = (refl, o .handed)
 
+    answered : is-stopped (answer t h .progress) ≡ false
+    answered = not-refused t h (o .holds) (o .handed) (o .to-come)
+
     -- the list goes on with `more` behind the advance
     on : (more : List Event) → cond (is-going (answer t h .progress)) (advances-while n (next t h)) [] ≡ more
         → Allowed bench-setup (next t h) more → Beside (stored-on n staging (answer t h)) (next t h) (run bench-setup (next t h) more)
@@ -161,7 +182,7 @@ module _ (staging : List ℕ) where
     unfolding run Allowed
     on more e allowed beside p a =
         let list : advances-while (suc n) t ≡ advanced-by (advance-of h) ∷ more = advances-on n t h (o .handed) ∙ ap (λ (l : List Event). advanced-by (advance-of h) ∷ l) e in
-        let first : Beside (answer t h) t (next t h) = subst (λ (y : State). Beside (answer t h) t y) (sym (next-is t h p a)) (beside-next t h p (o .form) a) in
+        let first : Beside (answer t h) t (next t h) = subst (λ (y : State). Beside (answer t h) t y) (sym (next-is t h p a)) (beside-next t h p (o .form) answered a) in
         subst (λ (l : List Event). Allowed bench-setup t l × Beside (stored-on (suc n) staging m) t (run bench-setup t l)) (sym list)
         ((inr handed-out, allowed), subst (λ (y : Moved). Beside y t (run bench-setup (next t h) more)) (sym stored) (beside-on first beside))
 
@@ -171,7 +192,7 @@ module _ (staging : List ℕ) where
         let g : is-going (answer t h .progress) ≡ false = ap is-going a ∙ e in
         on [] (ap (λ (b : Bool). cond b (advances-while n (next t h)) []) g) tt
         (subst (λ (y : Moved). Beside y (next t h) (next t h)) (sym (stored-still n staging (answer t h) g))
-        (let first = beside-next t h p (o .form) a in
+        (let first = beside-next t h p (o .form) answered a in
         subst (λ (y : State). Beside (answer t h) y y) (sym (next-is t h p a)) (record {
           ring = first .ring;
           fram = first .fram;
@@ -179,7 +200,13 @@ module _ (staging : List ℕ) where
           nonces = refl;
           kept = λ z k. k;
           new = first .new;
+          unrefused = first .unrefused;
         }))) p a
+
+    to-come-next : is-going (answer t h .progress) ≡ true → 1 ≤ left-of (answer t h .job)
+    to-come-next g =
+        let l = store-to-come (m .ring) (m .fram) (record { sizes = bench-sizes; job = m .job; staging = staging }) (sym (ap (λ (y : Moved). is-going (y .progress)) same) ∙ g) in
+        subst (λ (y : Moved). 1 ≤ left-of (y .job)) (sym same) l
 
     going : answer t h .progress ≡ GoingOn → Moves (suc n) staging m t
     unfolding is-going moved
@@ -193,6 +220,8 @@ module _ (staging : List ℕ) where
           job = refl;
           lent = o .lent;
           going = a;
+          holds = hold-advanced bench-setup t (o .holds) (advance-of h) handed-out;
+          to-come = to-come-next (ap is-going a);
         }) in
         on (advances-while n (next t h)) (ap (λ (p : Progress). cond (is-going p) (advances-while n (next t h)) []) a) (x .0) (x .1) GoingOn a
 

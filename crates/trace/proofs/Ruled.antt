@@ -1,32 +1,42 @@
 -- The theorem TraceRecovery: a trace whose nonces all differ goes on beside a list of the theorem Recovery. Assumes nothing.
-use Prim.Native.Nat.{ℕ}
+use Prim.Native.Nat.{ℕ, _^_, _≤_, _<_}
 use mathlib.Core.Path.{_≡_, refl, sym, ap, subst, _∙_}
 use mathlib.Core.Bool.{Bool, true, false, cond}
 use mathlib.Core.Logic.{_⊎_, inl, inr}
 use mathlib.Core.Option.{Option, none, some}
-use mathlib.Core.List.{List, [], _∷_, _++_, List·Memᴰ, List·Memᴰ·head, List·Memᴰ·tail, List·Memᴰ·cases-cons, List·Memᴰ·not-nil}
+use mathlib.Core.List.{List, [], _∷_, _++_, List·Memᴰ, List·Memᴰ·head, List·Memᴰ·tail, List·Memᴰ·cases-cons, List·Memᴰ·not-nil, append-nil}
+use native.Mathlib.Nat.{mod-lt}
 use native.Mathlib.Omega.{arith}
-use lib.Dec.{T, eqb}
-use Rattle.protocol.proofs.Facts.{T-true}
+use lib.Dec.{T, eqb, lit<}
+use lib.ListN.{length, length-replicate}
 use Rattle.octets.specs.Octets.{blank}
 use Rattle.octets.proofs.Laws.{blank-erased}
-use Rattle.ring.specs.Ring.{ring-wrong}
-use Rattle.checkpoint.specs.Checkpoint.{Longer}
-use Rattle.checkpoint.specs.Fram.{fram-wrong}
-use Rattle.protocol.specs.Types.{Session, Progress, GoingOn, Saved, Restored, Refused, Start, Begun, Stopped}
+use Rattle.octets.specs.Limits.{part-limit, nonce-length}
+use Rattle.octets.proofs.Numbers.{length-bytes}
+use Rattle.ring.specs.Ring.{Newest, Blank, Unreadable, At, AtPending, ring-wrong}
+use Rattle.checkpoint.specs.Checkpoint.{Longer, Checkpoint}
+use Rattle.checkpoint.specs.Fram.{fram-wrong, half-length}
+use Rattle.protocol.specs.Types.{Job, Session, Progress, GoingOn, Saved, Restored, Refused, Start, Begun, Stopped}
 use Rattle.protocol.specs.Calls.{Event, first-saved, saved, powered-up}
-use Rattle.protocol.specs.Operations.{Begin, Moved, no-session, first-save, save, power-up}
+use Rattle.protocol.specs.Operations.{Begin, begin, job-of, first-phase, Moved, no-session, first-save, save, power-up}
 use Rattle.protocol.specs.Journal.{Journal}
 use Rattle.protocol.specs.History as history
-use Rattle.protocol.specs.History.{State, fresh, begun, left-by, is-stop, refused, run, Keeps, Allowed}
-use Rattle.protocol.specs.Recovery.{is-going, Fits, Recovery}
+use Rattle.protocol.specs.History.{State, fresh, begun, left-by, is-stop, is-stopped, refused, run, Keeps, Allowed}
+use Rattle.protocol.specs.Recovery.{is-going, Fits, Last, Recovery}
 use Rattle.protocol.proofs.Refused.{step-refused}
 use Rattle.protocol.proofs.FreeResults.{no-session-stops}
+use Rattle.protocol.proofs.Facts.{no-fact, T-true}
+use Rattle.protocol.proofs.Invariant.{Holds}
+use Rattle.protocol.proofs.Lists.{hold-run, hold-fresh}
 use Rattle.protocol.proofs.Runs.{run-append, allowed-append}
 use Rattle.protocol.proofs.Recovery.{recovery}
-use Rattle.trace.specs.Trace.{kind, value, is-cut, ring-length, staging-room, nonce-of, first-saving, saving, powering-up, save-with, start, start-progress, started, stores-until, Bench, operation, handed, session-after, operated, cut-set, step, after, blank-bench}
-use Rattle.trace.specs.Rule.{bench-setup, given, call, advances-while, loss-if, operation-events, events-of, nonces, AllDiffer, blank-state, TraceRecovery}
-use Rattle.trace.proofs.Moves.{stored-still, moves}
+use Rattle.trace.specs.Trace.{kind, value, is-cut, bench-pages, bench-slots, ring-length, fram-length, bench-half, bench-staging, nonce-of, first-saving, saving, powering-up, save-with, start, start-progress, started, stores-until, Bench, operation, session-from, session-after, operated, cut-set, step, after, line-after, printed, lines, blank-bench}
+use Rattle.trace.specs.Rule.{bench-setup, given, call, advances-while, loss-if, operation-events, events-of, call-answer, call-line, list-lines, nonces, AllDiffer, blank-state, trace-events, state-after, TraceRecovery}
+use Rattle.ring_line.specs.Text.{ring-text}
+use Rattle.trace.proofs.Stores.{left, left-of, stored-still}
+use Rattle.trace.proofs.WithoutSession.{without-session}
+use Rattle.trace.proofs.Ends.{operation-kept}
+use Rattle.trace.proofs.Moves.{moves}
 
 -- ---- the call that begins an operation
 
@@ -42,6 +52,7 @@ record Opened (s t : State) (b : Begin) (nonce : List ℕ) : Type 0 where
 -- in state s the event is the call of the start b
 record CallOf (s : State) (e : Event) (b : Begin) (nonce : List ℕ) : Type 0 where
   stops : refused s e ≡ is-stop (b .answer)
+  answers : call-answer s e ≡ b .answer
   opens : b .answer ≡ Begun → Opened s (history.step bench-setup s e) b nonce
   keeps : (List·Memᴰ nonce (s .nonces) → ⊥) → T (refused s e) ⊎ Keeps bench-setup s e
 
@@ -64,70 +75,113 @@ record Like (b : Bench) (s : State) (words : List ℕ) : Type 0 where
   fram : s .fram ≡ b .fram
   form : s .form ≡ Longer
   session : (z : Session) → b .session ≡ some z → List·Memᴰ z (s .sessions)
+  holds : Holds bench-setup s
+  long : length (b .fram) ≡ fram-length
   unused : (n : List ℕ) → List·Memᴰ n (s .nonces) → List·Memᴰ n (nonces words) → ⊥
 
 stopped-not-begun : (x : ℕ) → Stopped x ≡ Begun → ⊥
 stopped-not-begun x e = let z : _≡_ {A = ℕ} 0 1 = cc in omega arith
 
-module _ (s : State) (ring fram : List ℕ) (er : s .ring ≡ ring) (ef : s .fram ≡ fram) (eo : s .form ≡ Longer) (v : ℕ) where
-  first-call : CallOf s (first-saved (first-saving v staging-room)) (first-save Longer ring fram (first-saving v staging-room)) (nonce-of v)
-  unfolding refused history.step left-by Keeps
+module _ (s : State) (ring fram : List ℕ) (er : s .ring ≡ ring) (ef : s .fram ≡ fram) (eo : s .form ≡ Longer) (v : ℕ) (small : v < 2 ^ 28) where
+  first-call : CallOf s (first-saved (first-saving v bench-staging)) (first-save Longer ring fram (first-saving v bench-staging)) (nonce-of v)
+  unfolding refused history.step left-by Keeps call-answer
   first-call =
-      let same : first-save (s .form) (s .ring) (s .fram) (first-saving v staging-room) ≡ first-save Longer ring fram (first-saving v staging-room) =
-      λ i. first-save (eo i) (er i) (ef i) (first-saving v staging-room) in
+      let same : first-save (s .form) (s .ring) (s .fram) (first-saving v bench-staging) ≡ first-save Longer ring fram (first-saving v bench-staging) =
+      λ i. first-save (eo i) (er i) (ef i) (first-saving v bench-staging) in
       record {
         stops = ap (λ (y : Begin). is-stop (y .answer)) same;
+        answers = ap (λ (y : Begin). y .answer) same;
         opens = λ e. opened s _ _ _ _ _ (ap (λ (y : Begin). y .answer) same ∙ e) same;
         keeps = λ n. inr (refl, refl, n);
       }
 
-  save-call : (o : Option Session) → ((z : Session) → o ≡ some z → List·Memᴰ z (s .sessions))
-      → CallOf s (saved (saving v staging-room (given o))) (save-with ring fram o v staging-room) (nonce-of v)
-  unfolding refused history.step left-by Keeps save-with is-stop
-  save-call none m =
-      let x = no-session-stops (s .form) (s .ring) (s .fram) (saving v staging-room no-session) refl in
-      let r : is-stop (save (s .form) (s .ring) (s .fram) (saving v staging-room no-session) .answer) ≡ true = ap is-stop (x .1) in
+  save-call : Holds bench-setup s → length (s .fram) ≡ fram-length → (o : Option Session) → ((z : Session) → o ≡ some z → List·Memᴰ z (s .sessions))
+      → CallOf s (saved (saving v bench-staging (given o))) (save-with ring fram o v bench-staging) (nonce-of v)
+  unfolding refused history.step left-by Keeps call-answer save-with is-stop
+  save-call inv long none m =
+      let x = no-session-stops (s .form) (s .ring) (s .fram) (saving v bench-staging no-session) refl in
+      let r : is-stop (save (s .form) (s .ring) (s .fram) (saving v bench-staging no-session) .answer) ≡ true = ap is-stop (x .1) in
+      let answer : save (s .form) (s .ring) (s .fram) (saving v bench-staging no-session) .answer ≡ Stopped (cond (blank ring) 6 8) =
+      (λ i. save (eo i) (s .ring) (s .fram) (saving v bench-staging no-session) .answer) ∙ without-session s inv long v small ∙ ap (λ (y : List ℕ). Stopped (cond (blank y) 6 8)) er in
       record {
         stops = r;
+        answers = answer;
         opens = λ e. absurd (stopped-not-begun _ e);
         keeps = λ n. inl (T-true _ r);
       }
-  save-call (some z) m =
-      let same : save (s .form) (s .ring) (s .fram) (saving v staging-room z) ≡ save Longer ring fram (saving v staging-room z) =
-      λ i. save (eo i) (er i) (ef i) (saving v staging-room z) in
+  save-call inv long (some z) m =
+      let same : save (s .form) (s .ring) (s .fram) (saving v bench-staging z) ≡ save Longer ring fram (saving v bench-staging z) =
+      λ i. save (eo i) (er i) (ef i) (saving v bench-staging z) in
       record {
         stops = ap (λ (y : Begin). is-stop (y .answer)) same;
+        answers = ap (λ (y : Begin). y .answer) same;
         opens = λ e. opened s _ _ _ _ _ (ap (λ (y : Begin). y .answer) same ∙ e) same;
         keeps = λ n. inr (refl, refl, n, m z refl);
       }
 
-  power-up-call : CallOf s (powered-up (powering-up v staging-room)) (power-up Longer ring fram (powering-up v staging-room)) (nonce-of v)
-  unfolding refused history.step left-by Keeps
+  power-up-call : CallOf s (powered-up (powering-up v bench-staging)) (power-up Longer ring fram (powering-up v bench-staging)) (nonce-of v)
+  unfolding refused history.step left-by Keeps call-answer
   power-up-call =
-      let same : power-up (s .form) (s .ring) (s .fram) (powering-up v staging-room) ≡ power-up Longer ring fram (powering-up v staging-room) =
-      λ i. power-up (eo i) (er i) (ef i) (powering-up v staging-room) in
+      let same : power-up (s .form) (s .ring) (s .fram) (powering-up v bench-staging) ≡ power-up Longer ring fram (powering-up v bench-staging) =
+      λ i. power-up (eo i) (er i) (ef i) (powering-up v bench-staging) in
       record {
         stops = ap (λ (y : Begin). is-stop (y .answer)) same;
+        answers = ap (λ (y : Begin). y .answer) same;
         opens = λ e. opened s _ _ _ _ _ (ap (λ (y : Begin). y .answer) same ∙ e) same;
         keeps = λ n. inr (refl, refl, n);
       }
 
-  any-call : (first again : Bool) (o : Option Session) → ((z : Session) → o ≡ some z → List·Memᴰ z (s .sessions))
-      → CallOf s (cond first (first-saved (first-saving v staging-room)) (cond again (saved (saving v staging-room (given o))) (powered-up (powering-up v staging-room))))
-      (cond first (first-save Longer ring fram (first-saving v staging-room)) (cond again (save-with ring fram o v staging-room) (power-up Longer ring fram (powering-up v staging-room)))) (nonce-of v)
-  any-call true again o m = first-call
-  any-call false true o m = save-call o m
-  any-call false false o m = power-up-call
+  any-call : Holds bench-setup s → length (s .fram) ≡ fram-length → (first again : Bool) (o : Option Session) → ((z : Session) → o ≡ some z → List·Memᴰ z (s .sessions))
+      → CallOf s (cond first (first-saved (first-saving v bench-staging)) (cond again (saved (saving v bench-staging (given o))) (powered-up (powering-up v bench-staging))))
+      (cond first (first-save Longer ring fram (first-saving v bench-staging)) (cond again (save-with ring fram o v bench-staging) (power-up Longer ring fram (powering-up v bench-staging)))) (nonce-of v)
+  any-call inv long true again o m = first-call
+  any-call inv long false true o m = save-call inv long o m
+  any-call inv long false false o m = power-up-call
 
 -- ---- an operation
 
 -- the bench's start of a word
 abbrev start-of : Bench → ℕ → Begin
-start-of b w = start (b .ring) (b .fram) (b .session) w staging-room
+start-of b w = start (b .ring) (b .fram) (b .session) w bench-staging
 
 called : (b : Bench) (s : State) (w : ℕ) (words : List ℕ) → Like b s words → CallOf s (call (b .session) w) (start-of b w) (nonce-of (value w))
 unfolding call start
-called b s w words l = any-call s (b .ring) (b .fram) (l .ring) (l .fram) (l .form) (value w) (eqb (kind w) 1) (eqb (kind w) 2) (b .session) (l .session)
+called b s w words l = any-call s (b .ring) (b .fram) (l .ring) (l .fram) (l .form) (value w) (mod-lt w (lit< tt)) (l .holds) (ap length (l .fram) ∙ l .long) (eqb (kind w) 1) (eqb (kind w) 2) (b .session) (l .session)
+
+-- a start that begins has a store to come
+begin-to-come : (o : Option ℕ) (key : List ℕ) (c : Checkpoint) (job : Job) (staging state secret : List ℕ) → begin o key c job staging state secret .answer ≡ Begun
+    → 1 ≤ left-of job → 1 ≤ left-of (begin o key c job staging state secret .job)
+unfolding begin
+begin-to-come (some x) key c job staging state secret e l = absurd (stopped-not-begun x e)
+begin-to-come none key c job staging state secret e l = l
+
+first-phase-left : (n : Newest) (k : ℕ) → 1 ≤ left (first-phase n) k
+unfolding first-phase left
+first-phase-left Blank k = omega arith
+first-phase-left Unreadable k = omega arith
+first-phase-left (At p q) k = omega arith
+first-phase-left (AtPending p q) k = omega arith
+
+kind-to-come : (ring fram : List ℕ) (o : Option Session) (v : ℕ) (first again : Bool)
+    → cond first (first-save Longer ring fram (first-saving v bench-staging)) (cond again (save-with ring fram o v bench-staging) (power-up Longer ring fram (powering-up v bench-staging))) .answer ≡ Begun
+    → 1 ≤ left-of (cond first (first-save Longer ring fram (first-saving v bench-staging)) (cond again (save-with ring fram o v bench-staging) (power-up Longer ring fram (powering-up v bench-staging))) .job)
+unfolding first-save save power-up save-with job-of left
+kind-to-come ring fram o v true again e = begin-to-come _ _ _ _ _ _ _ e (omega arith)
+kind-to-come ring fram none v false true e = absurd (stopped-not-begun _ e)
+kind-to-come ring fram (some z) v false true e = begin-to-come _ _ _ _ _ _ _ e (omega arith)
+kind-to-come ring fram o v false false e = begin-to-come _ _ _ _ _ _ _ e (first-phase-left _ _)
+
+start-to-come : (b : Bench) (w : ℕ) → start-of b w .answer ≡ Begun → 1 ≤ left-of (start-of b w .job)
+unfolding start
+start-to-come b w e = kind-to-come (b .ring) (b .fram) (b .session) (value w) (eqb (kind w) 1) (eqb (kind w) 2) e
+
+-- where no stop ended the operation its line is the ring's
+unrefused-line : (p : Progress) (ring : List ℕ) → is-stopped p ≡ false → line-after p ring ≡ ring-text bench-pages bench-slots ring
+unfolding line-after is-stopped
+unrefused-line GoingOn ring e = refl
+unrefused-line Saved ring e = refl
+unrefused-line Restored ring e = refl
+unrefused-line (Refused n) ring e = no-fact e
 
 -- what the operation and its part of the list come to, before a power loss
 record Comes (b : Bench) (s t : State) (w : ℕ) : Type 0 where
@@ -135,8 +189,9 @@ record Comes (b : Bench) (s t : State) (w : ℕ) : Type 0 where
   fram : t .fram ≡ operation b w .fram
   form : t .form ≡ Longer
   kept : (z : Session) → List·Memᴰ z (s .sessions) → List·Memᴰ z (t .sessions)
-  new : (z : Session) → handed (operation b w .progress) (operation b w .session) none ≡ some z → List·Memᴰ z (t .sessions)
+  new : (z : Session) → session-from (operation b w .progress) (operation b w .session) none ≡ some z → List·Memᴰ z (t .sessions)
   used : (n : List ℕ) → List·Memᴰ n (t .nonces) → (n ≡ nonce-of (value w)) ⊎ List·Memᴰ n (s .nonces)
+  line : line-after (operation b w .progress) (operation b w .ring) ≡ call-line (call-answer s (call (b .session) w)) t
 
 -- its events up to a power loss
 abbrev main-events : Bench → State → ℕ → List Event
@@ -160,7 +215,7 @@ module _ (b : Bench) (s : State) (w : ℕ) (more : List ℕ) (l : Like b s (w �
 
   -- a start that stops
   comes-stopped : (x : ℕ) → start-of b w .answer ≡ Stopped x → Main b s w
-  unfolding run Allowed is-stop operation started start-progress is-going handed
+  unfolding run Allowed is-stop operation started start-progress is-going session-from line-after call-line
   comes-stopped x e =
       let r : refused s (call (b .session) w) ≡ true = c .stops ∙ ap is-stop e in
       let t : history.step bench-setup s (call (b .session) w) ≡ s = step-refused bench-setup s (call (b .session) w) (T-true _ r) in
@@ -173,8 +228,9 @@ module _ (b : Bench) (s : State) (w : ℕ) (more : List ℕ) (l : Like b s (w �
           fram = l .fram ∙ sym (ap (λ (y : Moved). y .fram) m);
           form = l .form;
           kept = λ z k. k;
-          new = λ z k. absurd (nothing z (sym (ap (λ (y : Moved). handed (y .progress) (y .session) none) m ∙ ap (λ (a : Start). handed (start-progress a) no-session none) e) ∙ k));
+          new = λ z k. absurd (nothing z (sym (ap (λ (y : Moved). session-from (y .progress) (y .session) none) m ∙ ap (λ (a : Start). session-from (start-progress a) no-session none) e) ∙ k));
           used = λ n k. inr k;
+          line = ap (λ (y : Moved). line-after (y .progress) (y .ring)) m ∙ ap (λ (a : Start). line-after (start-progress a) (b .ring)) e ∙ sym (ap (λ (a : Start). call-line a s) (c .answers ∙ e));
         }),
       )
     where
@@ -183,7 +239,7 @@ module _ (b : Bench) (s : State) (w : ℕ) (more : List ℕ) (l : Like b s (w �
 
   -- a start that begins
   comes-begun : start-of b w .answer ≡ Begun → Main b s w
-  unfolding run Allowed is-stop operation started start-progress
+  unfolding run Allowed is-stop operation started start-progress call-line
   comes-begun e =
       let t = history.step bench-setup s (call (b .session) w) in
       let o = c .opens e in
@@ -195,7 +251,9 @@ module _ (b : Bench) (s : State) (w : ℕ) (more : List ℕ) (l : Like b s (w �
         handed = o .handed;
         job = refl;
         lent = refl;
-        going = ap (start-progress) e;
+        going = ap start-progress e;
+        holds = hold-run bench-setup (call (b .session) w ∷ []) s (l .holds) (c .keeps new-nonce, tt);
+        to-come = start-to-come b w e;
       }) in
       let list : main-events b s w ≡ call (b .session) w ∷ advances-while (stores-until (b .cut)) t = ap (λ (y : Bool). call (b .session) w ∷ cond y [] (advances-while (stores-until (b .cut)) t)) r in
       subst (λ (y : List Event). Allowed bench-setup s y × Comes b s (run bench-setup s y) w) (sym list) (
@@ -207,6 +265,8 @@ module _ (b : Bench) (s : State) (w : ℕ) (more : List ℕ) (l : Like b s (w �
           kept = λ z k. x .1 .kept z (subst (λ (y : List Session). List·Memᴰ z y) (sym (o .sessions)) k);
           new = x .1 .new;
           used = λ n k. List·Memᴰ·cases-cons (subst (λ (y : List (List ℕ)). List·Memᴰ n y) (x .1 .nonces ∙ o .nonces) k);
+          line = unrefused-line (operation b w .progress) (operation b w .ring) (x .1 .unrefused) ∙ ap (ring-text bench-pages bench-slots) (sym (x .1 .ring))
+              ∙ sym (ap (λ (a : Start). call-line a (run bench-setup t (advances-while (stores-until (b .cut)) t))) (c .answers ∙ e));
         },
       )
 
@@ -235,25 +295,31 @@ lost (some n) s = ((inr tt, tt), record { ring = refl; fram = refl; form = refl;
 -- the session of the unit after an operation is handed out in the list
 session-in : (b : Bench) (s t : State) (w : ℕ) (words : List ℕ) → Like b s words → Comes b s t w → (cut : Option ℕ) (z : Session)
     → session-after cut (operation b w) (b .session) ≡ some z → List·Memᴰ z (t .sessions)
-unfolding session-after handed
+unfolding session-after session-from
 session-in b s t w words l k (some n) z e = absurd (let y : _≡_ {A = ℕ} 0 1 = cc in omega arith)
 session-in b s t w words l k none z e = go (operation b w .progress) refl e
   where
     before : b .session ≡ some z → List·Memᴰ z (t .sessions)
     before q = k .kept z (l .session z q)
 
-    go : (p : Progress) → operation b w .progress ≡ p → handed p (operation b w .session) (b .session) ≡ some z → List·Memᴰ z (t .sessions)
+    go : (p : Progress) → operation b w .progress ≡ p → session-from p (operation b w .session) (b .session) ≡ some z → List·Memᴰ z (t .sessions)
     go GoingOn f q = before q
-    go Saved f q = k .new z (ap (λ (p : Progress). handed p (operation b w .session) none) f ∙ q)
-    go Restored f q = k .new z (ap (λ (p : Progress). handed p (operation b w .session) none) f ∙ q)
+    go Saved f q = k .new z (ap (λ (p : Progress). session-from p (operation b w .session) none) f ∙ q)
+    go Restored f q = k .new z (ap (λ (p : Progress). session-from p (operation b w .session) none) f ∙ q)
     go (Refused x) f q = before q
 
--- the rest of a trace goes on beside the rest of the list
-abbrev Goes : Bench → State → List Event → Bench → List ℕ → Type 0
-Goes b s events b′ words = Allowed bench-setup s events × Like b′ (run bench-setup s events) words
+-- the rest of a trace goes on beside the rest of the list, up to the words `to-come`
+abbrev Goes : State → List Event → Bench → List ℕ → Type 0
+Goes s events b′ to-come = Allowed bench-setup s events × Like b′ (run bench-setup s events) to-come
+
+line-kept : (a : Start) (s t : State) → t .ring ≡ s .ring → call-line a s ≡ call-line a t
+unfolding call-line
+line-kept Begun s t e = ap (ring-text bench-pages bench-slots) (sym e)
+line-kept (Stopped n) s t e = refl
 
 operates : (b : Bench) (s : State) (w : ℕ) (more : List ℕ) → Like b s (w ∷ more) → is-cut w ≡ false → AllDiffer (nonces (w ∷ more))
-    → Goes b s (operation-events b s w) (operated b w) more
+    → Goes s (operation-events b s w) (operated b w) more
+    × (line-after (operation b w .progress) (operation b w .ring) ≡ call-line (call-answer s (call (b .session) w)) (run bench-setup s (operation-events b s w)))
 unfolding operation-events operated AllDiffer
 operates b s w more l op d =
     let x = comes b s w more l op in
@@ -261,16 +327,22 @@ operates b s w more l op d =
     let t = run bench-setup s events in
     let y = lost (b .cut) t in
     let path : run bench-setup s (events ++ loss-if (b .cut)) ≡ run bench-setup t (loss-if (b .cut)) = run-append bench-setup events (loss-if (b .cut)) s in
+    let allowed = allowed-append bench-setup events (loss-if (b .cut)) s (x .0) (y .0) in
     let differ : AllDiffer (nonce-of (value w) ∷ nonces more) = subst AllDiffer (here b s w more l op) d in (
-      allowed-append bench-setup events (loss-if (b .cut)) s (x .0) (y .0),
-      subst (λ (q : State). Like (operated b w) q more) (sym path) (record {
-        ring = y .1 .ring ∙ x .1 .ring;
-        fram = y .1 .fram ∙ x .1 .fram;
-        form = y .1 .form ∙ x .1 .form;
-        session = λ z e. subst (λ (q : List Session). List·Memᴰ z q) (sym (y .1 .sessions)) (session-in b s t w (w ∷ more) l (x .1) (b .cut) z e);
-        unused = λ n m k.
-            unused-on n (x .1 .used n (subst (λ (q : List (List ℕ)). List·Memᴰ n q) (y .1 .nonces) m)) (differ .0) k;
-      }),
+      (
+        allowed,
+        record {
+          ring = ap (λ (q : State). q .ring) path ∙ y .1 .ring ∙ x .1 .ring;
+          fram = ap (λ (q : State). q .fram) path ∙ y .1 .fram ∙ x .1 .fram;
+          form = ap (λ (q : State). q .form) path ∙ y .1 .form ∙ x .1 .form;
+          session = λ z e. subst (λ (q : List Session). List·Memᴰ z q) (sym (ap (λ (q : State). q .sessions) path ∙ y .1 .sessions)) (session-in b s t w (w ∷ more) l (x .1) (b .cut) z e);
+          holds = hold-run bench-setup (events ++ loss-if (b .cut)) s (l .holds) allowed;
+          long = operation-kept b w ∙ l .long;
+          unused = λ n m k.
+              unused-on n (x .1 .used n (subst (λ (q : List (List ℕ)). List·Memᴰ n q) (ap (λ (q : State). q .nonces) path ∙ y .1 .nonces) m)) (differ .0) k;
+        },
+      ),
+      x .1 .line ∙ line-kept _ t _ (ap (λ (q : State). q .ring) path ∙ y .1 .ring),
     )
   where
     unused-on : (n : List ℕ) → (n ≡ nonce-of (value w)) ⊎ List·Memᴰ n (s .nonces) → (List·Memᴰ (nonce-of (value w)) (nonces more) → ⊥) → List·Memᴰ n (nonces more) → ⊥
@@ -280,7 +352,7 @@ operates b s w more l op d =
 -- ---- a trace
 
 -- a cut is set
-sets : (b : Bench) (s : State) (w n : ℕ) (more : List ℕ) → Like b s (w ∷ more) → is-cut w ≡ true → Goes b s [] (cut-set b n) more
+sets : (b : Bench) (s : State) (w n : ℕ) (more : List ℕ) → Like b s (w ∷ more) → is-cut w ≡ true → Goes s [] (cut-set b n) more
 unfolding cut-set run Allowed nonces
 sets b s w n more l e = (
   tt,
@@ -289,38 +361,36 @@ sets b s w n more l e = (
     fram = l .fram;
     form = l .form;
     session = l .session;
+    holds = l .holds;
+    long = l .long;
     unused = λ m k h. l .unused m k (rw e h);
   },
 )
 
-goes : (words : List ℕ) (b : Bench) (s : State) → Like b s words → AllDiffer (nonces words) → Goes b s (events-of b s words) (after b words) []
-unfolding events-of after step run Allowed AllDiffer nonces
-goes [] b s l d = (tt, l)
-goes (w ∷ more) b s l d =
-    let x = one (is-cut w) refl in
+-- a word, with the line that it prints
+one : (b : Bench) (s : State) (w : ℕ) (more : List ℕ) → Like b s (w ∷ more) → AllDiffer (nonces (w ∷ more)) → (c : Bool) → is-cut w ≡ c
+    → Goes s (cond c [] (operation-events b s w)) (cond c (cut-set b (value w)) (operated b w)) more
+    × (cond c [] (line-after (operation b w .progress) (operation b w .ring))
+    ≡ cond c [] (call-line (call-answer s (call (b .session) w)) (run bench-setup s (cond c [] (operation-events b s w)))))
+one b s w more l d true e = (sets b s w (value w) more l e, refl)
+one b s w more l d false e = operates b s w more l e d
+
+later-differ : (w : ℕ) (more : List ℕ) → AllDiffer (nonces (w ∷ more)) → (c : Bool) → is-cut w ≡ c → AllDiffer (nonces more)
+unfolding nonces AllDiffer
+later-differ w more d true e = subst (λ (c : Bool). AllDiffer (cond c (nonces more) (nonce-of (value w) ∷ nonces more))) e d
+later-differ w more d false e = subst (λ (c : Bool). AllDiffer (cond c (nonces more) (nonce-of (value w) ∷ nonces more))) e d .1
+
+goes : (to-come words : List ℕ) (b : Bench) (s : State) → Like b s (words ++ to-come) → AllDiffer (nonces (words ++ to-come))
+    → Goes s (events-of b s words) (after b words) to-come × (lines b words ≡ list-lines b s words)
+unfolding events-of after step run Allowed lines printed list-lines
+goes to-come [] b s l d = ((tt, l), refl)
+goes to-come (w ∷ more) b s l d =
+    let x = one b s w (more ++ to-come) l d (is-cut w) refl in
     let events = cond (is-cut w) [] (operation-events b s w) in
-    let rest = goes more (step b w) (run bench-setup s events) (x .1) (later (is-cut w) refl) in (
-      allowed-append bench-setup events _ s (x .0) (rest .0),
-      subst (λ (q : State). Like (after (step b w) more) q []) (sym (run-append bench-setup events _ s)) (rest .1),
+    let rest = goes to-come more (step b w) (run bench-setup s events) (x .0 .1) (later-differ w (more ++ to-come) d (is-cut w) refl) in (
+      (allowed-append bench-setup events _ s (x .0 .0) (rest .0 .0), subst (λ (q : State). Like (after (step b w) more) q to-come) (sym (run-append bench-setup events _ s)) (rest .0 .1)),
+      λ i. x .1 i ++ rest .1 i,
     )
-  where
-    one : (c : Bool) → is-cut w ≡ c → Goes b s (cond c [] (operation-events b s w)) (cond c (cut-set b (value w)) (operated b w)) more
-    one true e = sets b s w (value w) more l e
-    one false e = operates b s w more l e d
-
-    later : (c : Bool) → is-cut w ≡ c → AllDiffer (nonces more)
-    later true e = subst (λ (c : Bool). AllDiffer (cond c (nonces more) (nonce-of (value w) ∷ nonces more))) e d
-    later false e = subst (λ (c : Bool). AllDiffer (cond c (nonces more) (nonce-of (value w) ∷ nonces more))) e d .1
-
-like-blank : (words : List ℕ) → Like blank-bench blank-state words
-unfolding blank-bench blank-state fresh
-like-blank words = record {
-  ring = refl;
-  fram = refl;
-  form = refl;
-  session = λ z e. absurd (let y : _≡_ {A = ℕ} 0 1 = cc in omega arith);
-  unused = λ n m k. List·Memᴰ·not-nil m;
-}
 
 blank-ring : blank (blank-bench .ring) ≡ true
 unfolding blank-bench
@@ -330,18 +400,52 @@ fits : Fits bench-setup (blank-bench .ring) (blank-bench .fram)
 unfolding blank-bench ring-wrong fram-wrong
 fits = record { ring-right = refl; fram-right = refl; key-right = refl }
 
+no-session-held : (z : Session) → blank-bench .session ≡ some z → ⊥
+unfolding blank-bench
+no-session-held z e = let y : _≡_ {A = ℕ} 0 1 = cc in omega arith
+
+blank-long : length (blank-bench .fram) ≡ fram-length
+unfolding blank-bench
+blank-long = length-replicate {A = ℕ} fram-length 0xFF
+
+like-blank : (words : List ℕ) → Like blank-bench blank-state words
+unfolding blank-state fresh
+like-blank words = record {
+  ring = refl;
+  fram = refl;
+  form = refl;
+  session = λ z e. absurd (no-session-held z e);
+  holds = hold-fresh bench-setup Longer (blank-bench .ring) (blank-bench .fram) (fits .ring-right) (fits .fram-right) blank-ring;
+  long = blank-long;
+  unused = λ n m k. List·Memᴰ·not-nil m;
+}
+
+-- the last power-up of Recovery, with what the bench gives it
+last-call : (words : List ℕ) (w : ℕ) → is-cut w ≡ false → Like (after blank-bench words) (state-after words) (w ∷ []) → Last bench-setup (state-after words) (powering-up (value w) bench-staging)
+unfolding nonces half-length
+last-call words w op l = record {
+  sizes = refl;
+  key = refl;
+  nonce-long = length-bytes nonce-length (value w);
+  nonce-new = λ m. l .unused _ m (rw op (List·Memᴰ·head refl));
+  staging = let e = ap length (l .fram) ∙ l .long in omega (arith, e, length-replicate {A = ℕ} bench-half 0);
+  state = let e = length-replicate {A = ℕ} part-limit 0 in omega (arith, e);
+}
+
 pub trace-recovery : TraceRecovery
-unfolding TraceRecovery blank-state Recovery
+unfolding TraceRecovery Recovery blank-state
 trace-recovery words d =
-    let x = goes words blank-bench blank-state (like-blank words) d in
-    let r = recovery bench-setup Longer (blank-bench .ring) (blank-bench .fram) blank-ring (events-of blank-bench blank-state words) (x .0) in
+    let x = goes [] words blank-bench blank-state (like-blank (words ++ [])) (subst (λ (y : List ℕ). AllDiffer (nonces y)) (sym (append-nil words)) d) in
+    let r = recovery bench-setup Longer (blank-bench .ring) (blank-bench .fram) blank-ring (trace-events words) (x .0 .0) in
     let all = r .1 fits in
     record {
-      allowed = x .0;
-      form = x .1 .form;
-      ring = x .1 .ring;
-      fram = x .1 .fram;
+      allowed = x .0 .0;
+      form = x .0 .1 .form;
+      ring = x .0 .1 .ring;
+      fram = x .0 .1 .fram;
+      printed = x .1;
       exactly = r .0;
       seen = all .0;
       outcome = all .1;
+      next = λ w op e. all .1 _ (last-call words w op (goes (w ∷ []) words blank-bench blank-state (like-blank (words ++ w ∷ [])) e .0 .1));
     }

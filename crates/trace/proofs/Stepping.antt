@@ -19,10 +19,10 @@ use Rattle.ring_line.specs.Line.{line-limit, Short}
 use Rattle.jobs.specs.View.{view-job, view-session, view-start, view-progress, view-advanced}
 use Rattle.jobs.specs.declared.types.Started.{Started}
 use Rattle.jobs.specs.declared.types.Advanced.{Advanced}
-use Rattle.trace.specs.Trace.{value, is-cut, bench-sizes, staging-room, start, start-progress, started, stored-on, stores-until, Bench, operation, handed, session-after, operated, cut-set, step, line-after, printed}
+use Rattle.trace.specs.Trace.{value, is-cut, bench-sizes, bench-staging, start, start-progress, started, stored-on, stores-until, Bench, operation, session-from, session-after, operated, cut-set, step, line-after, printed}
 use Rattle.trace.specs.declared.unit.Unit.{Unit}
 use Rattle.trace.specs.View.{view-held, view-cut, view-unit, Starts, Stepped}
-use Rattle.trace.proofs.Moves.{stored-more}
+use Rattle.trace.proofs.Stores.{stored-more}
 
 -- ---- stores
 
@@ -42,7 +42,7 @@ module _ (n k : ℕ) (staging : List ℕ) (m : Moved) where
 
 -- ---- an operation
 
-pub operates : (b : Bench) (w n : ℕ) (s : Started) (staging : List ℕ) (m : Advanced) (r : Moved) → Starts s staging (start (b .ring) (b .fram) (b .session) w staging-room)
+pub operates : (b : Bench) (w n : ℕ) (s : Started) (staging : List ℕ) (m : Advanced) (r : Moved) → Starts s staging (start (b .ring) (b .fram) (b .session) w bench-staging)
     → (view-progress (m .progress) ≡ start-progress (view-start (s .start))) × (view-job (m .job) ≡ view-job (s .job)) × (view-session (m .session) ≡ no-session)
     → n ≡ stores-until (b .cut) → r ≡ stored-on n staging (view-advanced m (b .ring) (b .fram)) → r ≡ operation b w
 unfolding operation started
@@ -62,7 +62,7 @@ module _ (u : Unit) (m : Moved) (x : Option types.Session) where
   unfolding session-after
   session-cut e f = f ∙ sym (ap (λ (b : Bool). session-after (cond b (some (u .stores)) none) m (view-held (u .held))) e)
 
-  pub session-uncut : u .cut ≡ false → x ≡ handed (m .progress) (m .session) (view-held (u .held)) → x ≡ session-after (view-cut u) m (view-held (u .held))
+  pub session-uncut : u .cut ≡ false → x ≡ session-from (m .progress) (m .session) (view-held (u .held)) → x ≡ session-after (view-cut u) m (view-held (u .held))
   unfolding session-after
   session-uncut e f = f ∙ sym (ap (λ (b : Bool). session-after (cond b (some (u .stores)) none) m (view-held (u .held))) e)
 
@@ -93,7 +93,7 @@ stepped-cut u v w n ring fram text at c e f =
     let p = none-printed b w c in
     record {
       unit = (λ i. record { ring = ring; fram = fram; session = f .0 i; cut = (f .1 ∙ ap (λ (y : ℕ). some y) e) i }) ∙ sym (step-cut b w c);
-      written = sym (ap (put text at) p ∙ rw (add-zero at) (take-append-drop at text));
+      line-put = sym (ap (put text at) p ∙ rw (add-zero at) (take-append-drop at text));
       ends = omega (arith, ap length p);
       short = omega (arith, ap length p);
     }
@@ -116,7 +116,7 @@ stepped u v w ring fram ring′ fram′ text text′ at end m l c o s t f =
     let q = taken s in
     record {
       unit = (λ i. record { ring = o i .ring; fram = o i .fram; session = (f .0 ring′ fram′ ∙ ap (λ (y : Moved). session-after (view-cut u) y (view-held (u .held))) o) i; cut = f .1 i }) ∙ sym (step-operation b w c);
-      written = t .0 ∙ ap (put text at) (q .0 ∙ p);
+      line-put = t .0 ∙ ap (put text at) (q .0 ∙ p);
       ends = t .1 ∙ ap (λ (n : ℕ). at + n) (q .1 ∙ ap length p);
       short = omega (arith, s .short, q .1, ap length p);
     }

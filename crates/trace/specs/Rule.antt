@@ -2,18 +2,19 @@
 -- the memories that the trace leaves.
 use Prim.Native.Nat.{ℕ, zero, suc}
 use mathlib.Core.Path.{_≡_}
-use mathlib.Core.Bool.{cond}
+use mathlib.Core.Bool.{false, cond}
 use mathlib.Core.Option.{Option, none, some}
 use mathlib.Core.List.{List, [], _∷_, _++_, List·Memᴰ}
 use lib.Dec.{eqb}
 use Rattle.checkpoint.specs.Checkpoint.{Longer}
-use Rattle.protocol.specs.Types.{Session}
-use Rattle.protocol.specs.Calls.{Advances, PowersUp, Setup, Event, first-saved, saved, powered-up, advanced-by, PowerLoss}
-use Rattle.protocol.specs.Operations.{no-session, advance}
+use Rattle.protocol.specs.Types.{Session, Start, Begun, Stopped}
+use Rattle.protocol.specs.Calls.{Advances, PowersUp, Setup, Event, first-saved, saved, powered-up, advanced-by, PowerLoss, Updated, lost-in-store}
+use Rattle.protocol.specs.Operations.{no-session, first-save, save, power-up, advance}
 use Rattle.protocol.specs.History as history
 use Rattle.protocol.specs.History.{State, Handed, fresh, refused, run, Allowed}
 use Rattle.protocol.specs.Recovery.{is-going, with-handed, Exactly, Seen, Last, Outcome}
-use Rattle.trace.specs.Trace.{kind, value, is-cut, bench-sizes, bench-key, staging-room, nonce-of, first-saving, saving, powering-up, stores-until, Bench, step, after, blank-bench}
+use Rattle.ring_line.specs.Text.{refused-line, ring-text}
+use Rattle.trace.specs.Trace.{kind, value, is-cut, bench-pages, bench-slots, bench-sizes, bench-key, bench-staging, nonce-of, first-saving, saving, powering-up, stores-until, Bench, step, after, lines, blank-bench}
 
 abbrev pub bench-setup : Setup
 bench-setup = record { sizes = bench-sizes; key = bench-key }
@@ -28,9 +29,9 @@ given (some z) = z
 -- the call that begins the operation of a word
 unfoldable pub call : Option Session → ℕ → Event
 call session w =
-    cond (eqb (kind w) 1) (first-saved (first-saving (value w) staging-room))
-    (cond (eqb (kind w) 2) (saved (saving (value w) staging-room (given session)))
-    (powered-up (powering-up (value w) staging-room)))
+    cond (eqb (kind w) 1) (first-saved (first-saving (value w) bench-staging))
+    (cond (eqb (kind w) 2) (saved (saving (value w) bench-staging (given session)))
+    (powered-up (powering-up (value w) bench-staging)))
 
 abbrev pub advance-of : Handed → Advances
 advance-of h = record { sizes = bench-sizes; job = h .job; staging = h .staging }
@@ -58,6 +59,29 @@ events-of b s (w ∷ more) =
     let events = cond (is-cut w) [] (operation-events b s w) in
     events ++ events-of (step b w) (run bench-setup s events) more
 
+-- ---- the lines, from what the list's calls answer
+
+unfoldable pub call-answer : State → Event → Start
+call-answer s (first-saved a) = first-save (s .form) (s .ring) (s .fram) a .answer
+call-answer s (saved a) = save (s .form) (s .ring) (s .fram) a .answer
+call-answer s (powered-up a) = power-up (s .form) (s .ring) (s .fram) a .answer
+call-answer s (advanced-by a) = Begun
+call-answer s PowerLoss = Begun
+call-answer s Updated = Begun
+call-answer s (lost-in-store left) = Begun
+
+-- of a call that begins, the line of the ring that the operation leaves
+unfoldable pub call-line : Start → State → List ℕ
+call-line Begun t = ring-text bench-pages bench-slots (t .ring)
+call-line (Stopped n) t = refused-line n
+
+unfoldable pub list-lines : Bench → State → List ℕ → List ℕ
+list-lines b s [] = []
+list-lines b s (w ∷ more) =
+    let events = cond (is-cut w) [] (operation-events b s w) in
+    let t = run bench-setup s events in
+    cond (is-cut w) [] (call-line (call-answer s (call (b .session) w)) t) ++ list-lines (step b w) t more
+
 -- ---- the theorem
 
 -- the nonces of a trace's operations, refused ones included
@@ -79,15 +103,18 @@ trace-events words = events-of blank-bench blank-state words
 abbrev pub state-after : List ℕ → State
 state-after words = run bench-setup blank-state (trace-events words)
 
--- the list keeps the rules and leaves the trace's memories, and so the theorem's conclusion holds of them
+-- the list keeps the rules, leaves the trace's memories and answers its lines, and so the theorem's conclusion holds of them
 pub record Ruled (words : List ℕ) : Type 0 where
   pub allowed : Allowed bench-setup blank-state (trace-events words)
   pub form : state-after words .form ≡ Longer
   pub ring : state-after words .ring ≡ after blank-bench words .ring
   pub fram : state-after words .fram ≡ after blank-bench words .fram
+  pub printed : lines blank-bench words ≡ list-lines blank-bench blank-state words
   pub exactly : Exactly bench-setup blank-state (trace-events words)
   pub seen : Seen bench-setup (state-after words)
   pub outcome : (a : PowersUp) → Last bench-setup (state-after words) a → Outcome bench-setup (state-after words) a
+  -- and of the power-up of a next word, if its nonce differs too
+  pub next : (w : ℕ) → is-cut w ≡ false → AllDiffer (nonces (words ++ w ∷ [])) → Outcome bench-setup (state-after words) (powering-up (value w) bench-staging)
 
 -- of every list of words whose nonces all differ, those that pass the check among them
 unfoldable pub TraceRecovery : Type 0

@@ -80,8 +80,8 @@ abbrev pub bench-key : List ℕ
 bench-key = replicate key-length 0
 
 -- its staging buffer before a start
-abbrev pub staging-room : List ℕ
-staging-room = replicate bench-half 0
+abbrev pub bench-staging : List ℕ
+bench-staging = replicate bench-half 0
 
 -- what an operation with the value v is given
 abbrev pub nonce-of : ℕ → List ℕ
@@ -147,21 +147,21 @@ pub record Bench : Type 0 where
 -- what an operation answers and leaves
 unfoldable pub operation : Bench → ℕ → Moved
 operation b w =
-    let s = start (b .ring) (b .fram) (b .session) w staging-room in
+    let s = start (b .ring) (b .fram) (b .session) w bench-staging in
     stored-on (stores-until (b .cut)) (s .staging) (started (b .ring) (b .fram) s)
 
 -- ---- a trace
 
 -- the session handed out, or else the one before
-unfoldable pub handed : Progress → Session → Option Session → Option Session
-handed GoingOn new before = before
-handed Saved new before = some new
-handed Restored new before = some new
-handed (Refused n) new before = before
+unfoldable pub session-from : Progress → Session → Option Session → Option Session
+session-from GoingOn new before = before
+session-from Saved new before = some new
+session-from Restored new before = some new
+session-from (Refused n) new before = before
 
 -- after a cut there is none
 unfoldable pub session-after : Option ℕ → Moved → Option Session → Option Session
-session-after none m before = handed (m .progress) (m .session) before
+session-after none m before = session-from (m .progress) (m .session) before
 session-after (some n) m before = none
 
 unfoldable pub operated : Bench → ℕ → Bench

@@ -33,7 +33,7 @@ view-unit u ring fram = record { ring = ring; fram = fram; session = view-held (
 -- what a word did to the unit, and the line that was written at an offset of the text
 pub record Stepped (b : Bench) (w : ℕ) (text : List ℕ) (at : ℕ) (r : Step) (ring fram text′ : List ℕ) : Type 0 where
   pub unit : view-unit (r .unit) ring fram ≡ step b w
-  pub written : text′ ≡ put text at (printed b w)
+  pub line-put : text′ ≡ put text at (printed b w)
   pub ends : r .end ≡ at + length (printed b w)
   pub short : length (printed b w) ≤ line-limit
 

@@ -18,5 +18,5 @@ pub const FRAM_LENGTH: usize = 128;
 
 pub const HALF_LENGTH: usize = 64;
 
-// Room for the lines of the longest trace, of 40 bytes each.
+// Room for the lines of the longest trace, of at most 40 bytes each.
 pub const TEXT_LENGTH: usize = 163_840;

@@ -32,7 +32,7 @@ pub fn is_cut(w: u32) -> bool
     kind(w) == CUT
 }
 
-// Whether a word is wrong behind a cut, or behind an operation or nothing.
+// Whether a word is wrong; `after_cut` says whether the word before it is a cut.
 fn word_wrong(after_cut: bool, w: u32) -> bool
     ensures { λ r. ⌜ r ≡ word-wrong «after_cut» w ⌝ }
 {

@@ -1,4 +1,5 @@
-//! Document 02, A.4: the program `bench_trace`, beside the documents' operations and the book. The variable
+//! Document 02, A.4: the lines of the program `bench_trace`, beside those that the documents' operations give; these are
+//! held against the book here, memories included. The program's own memories do not show in its lines. The variable
 //! `KEEPER_PROGRAMS` names its folder; without it it is in the repository's `target/bin`.
 
 use crate::book::{Book, Cut};
@@ -136,7 +137,7 @@ impl Unit {
             self.book.cut(Cut::Between);
             self.session = None;
         }
-        self.compare();
+        self.as_booked();
         if stopped(answer) {
             return format!("refused {answer}");
         }
@@ -156,8 +157,8 @@ impl Unit {
         }
     }
 
-    /// The memories hold what the book has recorded. Records go round the slots, and to A and B in turn.
-    fn compare(&self) {
+    /// The memories here hold what the book has recorded. Records go round the slots, and to A and B in turn.
+    fn as_booked(&self) {
         let Some(entry) = &self.book.entry else {
             assert!(blank(&self.lent.ring));
             return;
@@ -319,7 +320,7 @@ fn wrong_traces() {
         bytes(&words)
     };
     for at in 0..=good.len() {
-        for kind in [0, 5, 6, 8, 12, 15] {
+        for kind in [0].into_iter().chain(5..16) {
             assert_eq!(printed(&with(at, kind << 28 | 7)), "refused 20\n");
         }
     }
@@ -331,15 +332,14 @@ fn wrong_traces() {
     // A broken word.
     let whole = bytes(&good);
     for length in 0..=whole.len() {
-        let text = printed(&whole[..length]);
         let broken = length % 4 != 0 || length == 8;
-        assert_eq!(text == "refused 20\n", broken, "with {length} bytes");
-        assert_eq!(text.lines().count(), if broken { 1 } else { [0, 1, 1, 2, 3][length / 4] });
+        assert_eq!(printed(&whole[..length]) == "refused 20\n", broken, "with {length} bytes");
+        compare(&whole[..length]);
     }
     // Too many words.
     let mut longest = vec![first_save(1)];
     longest.resize(4096, save(2));
-    assert_eq!(printed(&bytes(&longest)).lines().count(), 4096);
+    compare(&bytes(&longest));
     for more in [1, 4, 5, 100_000] {
         let mut trace = bytes(&longest);
         trace.resize(trace.len() + more, 0x20);
@@ -402,11 +402,11 @@ fn random_traces() {
         let mut random = Random::new(if differ { 51 } else { 52 });
         let mut given = BTreeSet::new();
         for _ in 0..400 {
-            let words = generated(&mut random, differ);
-            let mut trace = bytes(&words);
+            let mut trace = bytes(&generated(&mut random, differ));
+            // Some are damaged in a kind.
             if random.chance(1, 20) {
-                let at = random.below(trace.len());
-                trace[at] = random.next() as u8;
+                let at = random.below(trace.len() / 4);
+                trace[4 * at] = trace[4 * at] & 0x0F | (random.below(16) as u8) << 4;
             }
             given.append(&mut compare(&trace));
         }
@@ -414,15 +414,19 @@ fn random_traces() {
     }
 }
 
-/// "Long traces run in linear time".
+/// The longest traces take less than a second each: saves and power-ups without a cut, and with a cut in every second
+/// power-up, some far past its last store.
 #[test]
 fn longest_traces() {
     let mut random = Random::new(53);
-    let mut words = vec![first_save(0)];
-    words.extend((1..4096).map(|i| if random.chance(1, 2) { save(i) } else { power_up(i) }));
-    let cut_often: Vec<u32> =
-        (0..4096).map(|i| if i % 2 == 0 { cut(random.pick(&[3, 15, 0xFFF_FFFF])) } else { power_up(i) }).collect();
-    for words in [words, [vec![first_save(4096)], cut_often[..4094].to_vec()].concat()] {
+    let mut whole = vec![first_save(0)];
+    whole.extend((1..4096).map(|i| if random.chance(1, 2) { power_up(i) } else { save(i) }));
+    let mut cut_often = vec![first_save(0)];
+    for i in 0..1023 {
+        let stores = random.pick(&[3, 14, 15, 0xFFF_FFFF]);
+        cut_often.extend([power_up(3 * i + 1), save(3 * i + 2), cut(stores), power_up(3 * i + 3)]);
+    }
+    for words in [whole, cut_often] {
         let trace = bytes(&words);
         let start = Instant::now();
         let text = printed(&trace);

@@ -6,7 +6,7 @@ use lib.ListN.{length}
 use borrow.Author.Needs.{needs}
 use Rattle.jobs.specs.View.{view-advanced}
 use Rattle.trace.specs.Trace.{stored-on}
-use Rattle.trace.proofs.Moves.{stored-still}
+use Rattle.trace.proofs.Stores.{stored-still}
 use Rattle.trace.proofs.Stepping.{store-first, store-next, store-last}
 use Rattle.trace.proofs.unit.store_on.Statement.{statement}
 use Rattle.trace.proofs.unit.store_on.Tie as tie
