@@ -117,7 +117,7 @@ fn start_power_up(value: u32, ring: &[u8], fram: &[u8], staging: &mut [u8]) -> S
 }
 
 // The start that a word names. In a trace that was checked a word that is no cut, no first save and no save is a power-up.
-pub fn start(w: u32, held: Held, ring: &[u8], fram: &[u8], staging: &mut [u8]) -> Started
+pub(crate) fn start(w: u32, held: Held, ring: &[u8], fram: &[u8], staging: &mut [u8]) -> Started
     ensures { λ r. ⌜ Starts r (now (staging .exit)) (start (now (ring .entry)) (now (fram .entry)) (view-held held) w (now (staging .entry))) ⌝ }
 {
     if kind(w) == FIRST_SAVE {

@@ -61,7 +61,7 @@ fn no_held() -> Held
 }
 
 // The unit before the first word.
-pub fn new_unit() -> Unit
+pub(crate) fn new_unit() -> Unit
     ensures { λ r. ⌜ (view-held (r .held) ≡ none) × (view-cut r ≡ none) ⌝ }
 {
     let held = no_held();
@@ -215,7 +215,14 @@ impl Unit {
     }
 
     // One word more. The line of an operation is written to the text from offset `at` on.
-    pub fn step(self, w: u32, ring: &mut [u8], fram: &mut [u8], text: &mut [u8], at: usize) -> Step
+    pub(crate) fn step(
+        self,
+        w: u32,
+        ring: &mut [u8],
+        fram: &mut [u8],
+        text: &mut [u8],
+        at: usize,
+    ) -> Step
         requires { ⌜ at + line-limit ≤ length (now text) ⌝ }
         ensures { λ r. ⌜ Stepped (view-unit self (now (ring .entry)) (now (fram .entry))) w (now (text .entry)) at r (now (ring .exit)) (now (fram .exit)) (now (text .exit)) ⌝ }
     {

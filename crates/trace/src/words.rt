@@ -13,20 +13,20 @@ pub const SAVE: u32 = 2;
 
 pub const CUT: u32 = 4;
 
-pub fn kind(w: u32) -> u32
+pub(crate) fn kind(w: u32) -> u32
     ensures { λ r. ⌜ r ≡ kind w ⌝ }
 {
     w / 0x1000_0000
 }
 
 // The low 28 bits.
-pub fn value(w: u32) -> u32
+pub(crate) fn value(w: u32) -> u32
     ensures { λ r. ⌜ (r ≡ value w) × (r < 2 ^ 28) ⌝ }
 {
     w % 0x1000_0000
 }
 
-pub fn is_cut(w: u32) -> bool
+pub(crate) fn is_cut(w: u32) -> bool
     ensures { λ r. ⌜ r ≡ is-cut w ⌝ }
 {
     kind(w) == CUT
@@ -59,7 +59,7 @@ fn words_wrong(trace: &[u8]) -> bool
 }
 
 // Stop 20.
-pub fn trace_wrong(trace: &[u8]) -> bool
+pub(crate) fn trace_wrong(trace: &[u8]) -> bool
     ensures { λ r. ⌜ r ≡ trace-wrong (now (trace .entry)) ⌝ }
 {
     let n = trace.len();
