@@ -22,6 +22,7 @@ use Rattle.protocol.specs.Recovery.{is-going}
 use Rattle.protocol.proofs.Advancing.{job-passes}
 use Rattle.protocol.proofs.Sequence.{words-in-order}
 use Rattle.trace.specs.Trace.{value, is-cut, bench-sizes, fram-length, bench-staging, start, started, stored-on, most-stores, stores-until, Bench, operation, operated, cut-set, step, after, blank-bench}
+use Rattle.trace.specs.Rule.{RunsToItsEnd}
 use Rattle.trace.proofs.Stores.{left-of, left-most, advance-fewer, refused-still, stored-still, stored-more}
 
 -- ---- all of its stores
@@ -176,7 +177,6 @@ runs-on b w l c =
     ∙ ends (s .staging) most-stores m (omega arith)
     (λ e. omega (arith, left-most (m .job .phase) (m .job .length), right (m .job) bench-sizes (b .ring) (b .fram) (job-passes Longer (b .ring) (b .fram) (call-of (s .staging) m) e) .fits, l))
 
--- wherever a trace has come to, the next operation is not left in the midst of its stores if no cut is set
-pub runs-to-its-end : (words : List ℕ) (w : ℕ) → after blank-bench words .cut ≡ none → is-going (operation (after blank-bench words) w .progress) ≡ false
-unfolding blank-bench
+pub runs-to-its-end : RunsToItsEnd
+unfolding RunsToItsEnd blank-bench
 runs-to-its-end words w c = runs-on (after blank-bench words) w (after-kept words blank-bench ∙ length-replicate {A = ℕ} fram-length 0xFF) c

@@ -192,6 +192,7 @@ record Comes (b : Bench) (s t : State) (w : ℕ) : Type 0 where
   new : (z : Session) → session-from (operation b w .progress) (operation b w .session) none ≡ some z → List·Memᴰ z (t .sessions)
   used : (n : List ℕ) → List·Memᴰ n (t .nonces) → (n ≡ nonce-of (value w)) ⊎ List·Memᴰ n (s .nonces)
   line : line-after (operation b w .progress) (operation b w .ring) ≡ call-line (call-answer s (call (b .session) w)) t
+  unstopped : start-of b w .answer ≡ Begun → is-stopped (operation b w .progress) ≡ false
 
 -- its events up to a power loss
 abbrev main-events : Bench → State → ℕ → List Event
@@ -231,6 +232,7 @@ module _ (b : Bench) (s : State) (w : ℕ) (more : List ℕ) (l : Like b s (w �
           new = λ z k. absurd (nothing z (sym (ap (λ (y : Moved). session-from (y .progress) (y .session) none) m ∙ ap (λ (a : Start). session-from (start-progress a) no-session none) e) ∙ k));
           used = λ n k. inr k;
           line = ap (λ (y : Moved). line-after (y .progress) (y .ring)) m ∙ ap (λ (a : Start). line-after (start-progress a) (b .ring)) e ∙ sym (ap (λ (a : Start). call-line a s) (c .answers ∙ e));
+          unstopped = λ q. absurd (stopped-not-begun x (sym e ∙ q));
         }),
       )
     where
@@ -267,6 +269,7 @@ module _ (b : Bench) (s : State) (w : ℕ) (more : List ℕ) (l : Like b s (w �
           used = λ n k. List·Memᴰ·cases-cons (subst (λ (y : List (List ℕ)). List·Memᴰ n y) (x .1 .nonces ∙ o .nonces) k);
           line = unrefused-line (operation b w .progress) (operation b w .ring) (x .1 .unrefused) ∙ ap (ring-text bench-pages bench-slots) (sym (x .1 .ring))
               ∙ sym (ap (λ (a : Start). call-line a (run bench-setup t (advances-while (stores-until (b .cut)) t))) (c .answers ∙ e));
+          unstopped = λ q. x .1 .unrefused;
         },
       )
 
@@ -447,5 +450,9 @@ trace-recovery words d =
       exactly = r .0;
       seen = all .0;
       outcome = all .1;
-      next = λ w op e. all .1 _ (last-call words w op (goes (w ∷ []) words blank-bench blank-state (like-blank (words ++ w ∷ [])) e .0 .1));
+      next = λ w op e. all .1 _ (last-call words w op (like-next w e));
+      unstopped = λ w op e q. comes (after blank-bench words) (state-after words) w [] (like-next w e) op .1 .unstopped q;
     }
+  where
+    like-next : (w : ℕ) → AllDiffer (nonces (words ++ w ∷ [])) → Like (after blank-bench words) (state-after words) (w ∷ [])
+    like-next w e = goes (w ∷ []) words blank-bench blank-state (like-blank (words ++ w ∷ [])) e .0 .1

@@ -11,10 +11,10 @@ use Rattle.protocol.specs.Types.{Session, Start, Begun, Stopped}
 use Rattle.protocol.specs.Calls.{Advances, PowersUp, Setup, Event, first-saved, saved, powered-up, advanced-by, PowerLoss, Updated, lost-in-store}
 use Rattle.protocol.specs.Operations.{no-session, first-save, save, power-up, advance}
 use Rattle.protocol.specs.History as history
-use Rattle.protocol.specs.History.{State, Handed, fresh, refused, run, Allowed}
+use Rattle.protocol.specs.History.{State, Handed, fresh, is-stopped, refused, run, Allowed}
 use Rattle.protocol.specs.Recovery.{is-going, with-handed, Exactly, Seen, Last, Outcome}
 use Rattle.ring_line.specs.Text.{refused-line, ring-text}
-use Rattle.trace.specs.Trace.{kind, value, is-cut, bench-pages, bench-slots, bench-sizes, bench-key, bench-staging, nonce-of, first-saving, saving, powering-up, stores-until, Bench, step, after, lines, blank-bench}
+use Rattle.trace.specs.Trace.{kind, value, is-cut, bench-pages, bench-slots, bench-sizes, bench-key, bench-staging, nonce-of, first-saving, saving, powering-up, start, stores-until, Bench, operation, step, after, lines, blank-bench}
 
 abbrev pub bench-setup : Setup
 bench-setup = record { sizes = bench-sizes; key = bench-key }
@@ -115,7 +115,16 @@ pub record Ruled (words : List ℕ) : Type 0 where
   pub outcome : (a : PowersUp) → Last bench-setup (state-after words) a → Outcome bench-setup (state-after words) a
   -- and of the power-up of a next word, if its nonce differs too
   pub next : (w : ℕ) → is-cut w ≡ false → AllDiffer (nonces (words ++ w ∷ [])) → Outcome bench-setup (state-after words) (powering-up (value w) bench-staging)
+  -- the next word's operation, once it has begun, is stopped at no store
+  pub unstopped : (w : ℕ) → is-cut w ≡ false → AllDiffer (nonces (words ++ w ∷ [])) → let b = after blank-bench words in
+      start (b .ring) (b .fram) (b .session) w bench-staging .answer ≡ Begun → is-stopped (operation b w .progress) ≡ false
 
 -- of every list of words whose nonces all differ, those that pass the check among them
 unfoldable pub TraceRecovery : Type 0
 TraceRecovery = (words : List ℕ) → AllDiffer (nonces words) → Ruled words
+
+-- ---- of every trace, with repeated nonces too
+
+-- wherever a trace has come to, the next operation is not left in the midst of its stores if no cut is set: `most-stores` are enough
+unfoldable pub RunsToItsEnd : Type 0
+RunsToItsEnd = (words : List ℕ) (w : ℕ) → after blank-bench words .cut ≡ none → is-going (operation (after blank-bench words) w .progress) ≡ false

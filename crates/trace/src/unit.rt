@@ -34,7 +34,7 @@ pub struct Held {
     pub session: Session,
 }
 
-// Without the memories: `stores` are those that a cut lets the next operation make, if one is set.
+// The bench's unit without its memories. If a cut is set, the next operation makes at most `stores` stores.
 pub struct Unit {
     pub held: Held,
     pub cut: bool,
