@@ -61,6 +61,7 @@ events-of b s (w ∷ more) =
 
 -- ---- the lines, from what the list's calls answer
 
+-- what a start answers; it is asked of no other event
 unfoldable pub call-answer : State → Event → Start
 call-answer s (first-saved a) = first-save (s .form) (s .ring) (s .fram) a .answer
 call-answer s (saved a) = save (s .form) (s .ring) (s .fram) a .answer

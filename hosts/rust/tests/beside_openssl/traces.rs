@@ -403,10 +403,10 @@ fn random_traces() {
         let mut given = BTreeSet::new();
         for _ in 0..400 {
             let mut trace = bytes(&generated(&mut random, differ));
-            // Some are damaged in a kind.
+            // In some an operation or a cut becomes a cut or a word of another kind, so that no nonce comes in.
             if random.chance(1, 20) {
-                let at = random.below(trace.len() / 4);
-                trace[4 * at] = trace[4 * at] & 0x0F | (random.below(16) as u8) << 4;
+                let at = 4 * random.below(trace.len() / 4);
+                trace[at] = trace[at] & 0x0F | random.pick(&[0, 4, 5, 8, 15]) << 4;
             }
             given.append(&mut compare(&trace));
         }
