@@ -1,6 +1,7 @@
 -- Each bench value by computing, and M13's by the laws of lengths.
 use mathlib.Core.Path.{_≡_, refl}
-use lib.ListN.{length}
+use Prim.Native.Nat.{ℕ}
+use lib.ListN.{length, length-replicate}
 use Rattle.octets.specs.Octets.{part, blank, number}
 use Rattle.octets.specs.Word.{word-at, kind-of, value-of}
 use Rattle.sbox.specs.Field.{xtime, times, power, inverse, affine, turned, sub-byte, _•_}
@@ -9,8 +10,8 @@ use Rattle.stops.specs.Stops.{first-of}
 use Rattle.checkpoint.specs.Fram.{fram-wrong, half-length}
 use Rattle.checkpoint.specs.Checkpoint.{Older, Longer, part-wrong, sealed}
 use Rattle.checkpoint.proofs.SealedLaws.{length-sealed}
-use Rattle.bench_values.specs.Values.{M13, key, Values}
-use Rattle.protocol.specs.Operations.{parts-wrong, staging-wrong, packet-wrong, session-wrong, save-restarts, larger, first-save-stop}
+use Rattle.bench_values.specs.Values.{M13, key, zeros, Values}
+use Rattle.protocol.specs.Operations.{parts-wrong, state-wrong, staging-wrong, packet-wrong, session-wrong, save-restarts, larger, first-save-stop}
 use Rattle.protocol.specs.Journal.{stores-of, erase-if}
 
 older-long : length (sealed key (M13 Older)) ≡ 56
@@ -19,6 +20,10 @@ older-long = length-sealed key (M13 Older) refl
 longer-long : length (sealed key (M13 Longer)) ≡ 60
 longer-long = length-sealed key (M13 Longer) refl
 
+zeros-long : (n : ℕ) → length (zeros n) ≡ n
+unfolding zeros
+zeros-long n = length-replicate {A = ℕ} n 0
+
 pub values : Values
-unfolding Values read-ring reading used-from alone followed filled records is-record half-named next-page page-at target-page target-slot blank part number word-at kind-of value-of sub-byte inverse affine turned power times xtime _•_ stores-of erase-if first-save-stop first-of ring-wrong fram-wrong half-length parts-wrong part-wrong staging-wrong packet-wrong session-wrong save-restarts larger
-values = rw (older-long, longer-long)
+unfolding Values read-ring reading used-from alone followed filled records is-record half-named next-page page-at target-page target-slot blank part number word-at kind-of value-of sub-byte inverse affine turned power times xtime _•_ stores-of erase-if first-save-stop first-of ring-wrong fram-wrong half-length parts-wrong state-wrong part-wrong staging-wrong packet-wrong session-wrong save-restarts larger
+values = rw (older-long, longer-long, zeros-long 262144, zeros-long 262152, zeros-long 32768, zeros-long 32769, zeros-long 32772, zeros-long 32767, zeros-long 131072, zeros-long 131080, zeros-long 4096, zeros-long 4100, zeros-long 4095)

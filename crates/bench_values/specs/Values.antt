@@ -10,10 +10,11 @@ use Rattle.octets.specs.Limits.{slot-length, key-length, nonce-length, tag-leng
 use Rattle.octets.specs.Octets.{erased}
 use Rattle.sbox.specs.Field.{xtime, sub-byte}
 use Rattle.ring.specs.Ring.{Newest, Blank, Unreadable, At, AtPending, is-record, half-named, read-ring, target-page, target-slot}
-use Rattle.checkpoint.specs.Checkpoint.{Form, Older, Longer, Checkpoint, sealed}
-use Rattle.protocol.specs.Types.{Session}
+use Rattle.checkpoint.specs.Checkpoint.{Form, Older, Longer, Checkpoint, sealed, part-wrong}
+use Rattle.checkpoint.specs.Fram.{fram-wrong}
+use Rattle.protocol.specs.Types.{Firmware, first-firmware, packet-firmware, this-firmware, Session}
 use Rattle.protocol.specs.Calls.{sizes}
-use Rattle.protocol.specs.Operations.{session-wrong, save-restarts, larger, first-save-stop}
+use Rattle.protocol.specs.Operations.{state-wrong, session-wrong, save-restarts, larger, first-save-stop}
 use Rattle.protocol.specs.Journal.{Journal, stores-of}
 
 -- ---- rings of 3 pages with 2 slots
@@ -111,7 +112,7 @@ stores-after form j = stores (length (stores-of key 2 j (M13 form)))
 
 -- a first save with empty parts, a blank ring and a FRAM of n bytes, which has heard a packet
 abbrev starts : ℕ → ℕ → Value
-starts n packet = stops (first-save-stop Longer M1 (replicate n 0) (record {
+starts n packet = stops (first-save-stop this-firmware M1 (replicate n 0) (record {
   arguments = record {
     sizes = sizes 3 2;
     key = key;
@@ -133,6 +134,22 @@ out-of-range restarts packet = wrong (session-wrong Longer (session restarts pac
 
 abbrev saves : (heard restarts packet : ℕ) → Value
 saves heard restarts packet = numbers (save-restarts Longer heard packet restarts) (larger packet heard)
+
+-- ---- the bounds of document 02, A.5
+
+-- n bytes, of which only the number counts
+unfoldable pub zeros : ℕ → List ℕ
+zeros n = replicate n 0
+
+-- stop 2 of a FRAM image, and stop 4 of a part and of a state buffer, of so many bytes
+abbrev image : Firmware → ℕ → Value
+image firmware n = wrong (fram-wrong (firmware .largest-fram) (zeros n))
+
+abbrev a-part : Firmware → ℕ → Value
+a-part firmware n = wrong (part-wrong (firmware .longest-part) (zeros n))
+
+abbrev state-buffer : Firmware → ℕ → Value
+state-buffer firmware n = wrong (state-wrong firmware (zeros n))
 
 -- what the definitions give, and what the papers say
 abbrev pub table : List (Value × Value)
@@ -173,7 +190,20 @@ table =
     (out-of-range 0 1073741824, wrong true) ∷
     (saves 6 5 7, numbers 5 7) ∷
     (saves 7 5 7, numbers 5 7) ∷
-    (saves 8 5 7, numbers 0 8) ∷ []
+    (saves 8 5 7, numbers 0 8) ∷
+    (image this-firmware 262144, wrong false) ∷
+    (image this-firmware 262152, wrong true) ∷
+    (a-part this-firmware 32768, wrong false) ∷
+    (a-part this-firmware 32769, wrong true) ∷
+    (a-part this-firmware 32772, wrong true) ∷
+    (state-buffer this-firmware 32767, wrong true) ∷
+    (state-buffer this-firmware 32768, wrong false) ∷
+    (image packet-firmware 131072, wrong false) ∷
+    (image packet-firmware 131080, wrong true) ∷
+    (a-part first-firmware 4096, wrong false) ∷
+    (a-part first-firmware 4100, wrong true) ∷
+    (state-buffer packet-firmware 4095, wrong true) ∷
+    (state-buffer first-firmware 4096, wrong false) ∷ []
 
 unfoldable pub Values : Type 0
 Values = map (λ v. v .0) table ≡ map (λ v. v .1) table

@@ -1,14 +1,15 @@
 -- A half that begins with a sealed checkpoint has a good head and tag and reads as that checkpoint, whatever follows it;
 -- and a half with a good head and tag begins with the checkpoint that it reads as, sealed. Assumes nothing.
 use Prim.Native.Nat.{ℕ, _/_, _≤_, _<_, _+_, _*_, _^_}
-use mathlib.Core.Path.{_≡_, refl, sym, _∙_}
-use mathlib.Core.Bool.{true, cond}
+use mathlib.Core.Path.{_≡_, refl, sym, ap, subst, _∙_}
+use mathlib.Core.Logic.{_⊎_, inl, inr}
+use mathlib.Core.Bool.{Bool, true, false, cond}
 use mathlib.Core.List.{List, _++_}
 use native.Mathlib.Omega.{arith}
 use lib.ListN.{length, length-append}
 use lib.Dec.{eqb}
 use borrow.Author.Tests.{le-leb}
-use Rattle.octets.specs.Limits.{part-limit, restart-limit}
+use Rattle.octets.specs.Limits.{restart-limit}
 use Rattle.octets.specs.Octets.{part}
 use Rattle.octets.specs.Word.{word-at, kind-of}
 use Rattle.octets.proofs.Laws.{same-refl}
@@ -17,26 +18,23 @@ use Rattle.gcm.specs.Gcm.{encrypted}
 use Rattle.gcm.proofs.Laws.{encrypted-twice}
 use Rattle.checkpoint.specs.Checkpoint.{Form, Older, Longer, Checkpoint, head-words, open-word, secret-word, restarts-word, head-length, associated, own-tag, sealed}
 use Rattle.checkpoint.specs.Fram.{half-length, half-at}
-use Rattle.checkpoint.specs.Half.{kind-at, value-at, form-of, read-as, stored-packet, kinds-from, open-length, secret-length, stored-restarts, stored-length, good-head, stored-associated, stored-previous, stored-open, stored-cipher, stored-tag, good-tag, stored}
+use Rattle.checkpoint.specs.Half.{kind-at, value-at, form-of, read-as, Reads, stored-packet, kinds-from, open-length, secret-length, stored-restarts, stored-length, good-head, stored-associated, stored-previous, stored-open, stored-cipher, stored-tag, good-tag, stored}
 use Rattle.checkpoint.specs.Layout.{PacketInRange, InRange}
 use Rattle.checkpoint.proofs.FramLaws.{part-of-half}
+use Rattle.checkpoint.proofs.StoredLaws.{head-facts, packet-small}
 use Rattle.checkpoint.proofs.SealedLaws.{length-sealed, first-word, first-word-at, open-word-at, secret-word-at, restarts-word-at, associated-at, open-at, cipher-at, tag-at, previous-at}
 
 -- ---- the form
-
--- firmware that writes heads of a form reads those of its own, and of the older one
-abbrev pub Reads : Form → Form → Type 0
-Reads Older form = form ≡ Older
-Reads Longer form = Unit {0}
 
 pub reads-own : (form : Form) → Reads form form
 reads-own Older = refl
 reads-own Longer = tt
 
-pub reads-updated : (firmware form : Form) → Reads firmware form → Reads Longer form
-reads-updated firmware form r = tt
-
 -- ---- reading what was sealed
+
+untrue : (b : Bool) → (b ≡ true → ⊥) → b ≡ false
+untrue true f = absurd (f refl)
+untrue false f = refl
 
 module _ (key : List ℕ) (c : Checkpoint) (rest : List ℕ) (g : InRange c) where
   abbrev half : List ℕ
@@ -89,9 +87,9 @@ module _ (key : List ℕ) (c : Checkpoint) (rest : List ℕ) (g : InRange c) whe
   kinds-at Older packet n m r h e a b d p x y z = rw (a, b, d, kind-is 1 n x, kind-is 2 m y, kind-is 3 r z)
   kinds-at Longer packet n m r h e a b d p x y z = rw (e, a, b, d, kind-is 0 packet (omega arith), kind-is 1 n x, kind-is 2 m y, kind-is 3 r z)
 
-  pub head-passes : good-head (c .form) (sealed key c ++ rest) ≡ true
+  pub head-passes : (limit : ℕ) → length (c .open-part) ≤ limit → length (c .secret) ≤ limit → good-head limit (c .form) (sealed key c ++ rest) ≡ true
   unfolding good-head
-  head-passes =
+  head-passes limit open-small secret-small =
       rw (
         kinds-at (c .form) (c .packet) (length (c .open-part) / 4) (length (c .secret) / 4) (c .restarts) half (first-word-at key c rest g) (open-word-at key c rest g)
             (secret-word-at key c rest g) (restarts-word-at key c rest g) (g .packet-small) (omega (arith, g)) (omega (arith, g)) (omega (arith, g)),
@@ -99,10 +97,48 @@ module _ (key : List ℕ) (c : Checkpoint) (rest : List ℕ) (g : InRange c) whe
         open-length-is,
         secret-length-is,
         restarts-is,
-        le-leb (length (c .open-part)) part-limit (g .open-small),
-        le-leb (length (c .secret)) part-limit (g .secret-small),
+        le-leb (length (c .open-part)) limit open-small,
+        le-leb (length (c .secret)) limit secret-small,
         le-leb (c .restarts) restart-limit (g .restarts-small),
       )
+
+  -- firmware reads the head in the checkpoint's form, or finds a wrong kind
+  read-or-refused : (firmware : Form) (limit : ℕ) → (read-as firmware half ≡ c .form) ⊎ (good-head limit (read-as firmware half) half ≡ false)
+  unfolding good-head kinds-from kind-at
+  read-or-refused Longer limit = inl form-is
+  read-or-refused Older limit = go (c .form) refl
+    where
+      first : Longer ≡ c .form → word-at half 0 ≡ 0 * 2 ^ 30 + c .packet
+      first e = first-word-at key c rest g ∙ ap (λ (f : Form). first-word f (c .packet) (length (c .open-part) / 4)) (sym e)
+
+      go : (form : Form) → form ≡ c .form → (Older ≡ c .form) ⊎ (good-head limit Older half ≡ false)
+      go Older e = inl e
+      go Longer e = inr (rw (first e, kind-is 0 (c .packet) (omega (arith, packet-small (c .form) (c .packet) (g .packet-small)))))
+
+  -- a part above the limit is refused, in whatever form the head is read
+  pub head-refused : (firmware : Form) (limit : ℕ) → (limit < length (c .open-part)) ⊎ (limit < length (c .secret))
+      → good-head limit (read-as firmware (sealed key c ++ rest)) (sealed key c ++ rest) ≡ false
+  head-refused firmware limit above = from (read-or-refused firmware limit)
+    where
+      small : good-head limit (c .form) half ≡ true → (length (c .open-part) ≤ limit) × (length (c .secret) ≤ limit)
+      small e = let f = head-facts limit (c .form) half e in (subst (λ (n : ℕ). n ≤ limit) open-length-is (f .open-small), subst (λ (n : ℕ). n ≤ limit) secret-length-is (f .secret-small))
+
+      never : (limit < length (c .open-part)) ⊎ (limit < length (c .secret)) → good-head limit (c .form) half ≡ true → ⊥
+      never (inl x) e = omega (arith, small e .0)
+      never (inr x) e = omega (arith, small e .1)
+
+      from : (read-as firmware half ≡ c .form) ⊎ (good-head limit (read-as firmware half) half ≡ false) → good-head limit (read-as firmware half) half ≡ false
+      from (inl e) = ap (λ (f : Form). good-head limit f half) e ∙ untrue (good-head limit (c .form) half) (never above)
+      from (inr e) = e
+
+  -- and so is a head that the firmware does not read
+  pub unread-refused : (firmware : Form) (limit : ℕ) → (Reads firmware (c .form) → ⊥) → good-head limit (read-as firmware (sealed key c ++ rest)) (sealed key c ++ rest) ≡ false
+  unread-refused Longer limit unread = absurd (unread tt)
+  unread-refused Older limit unread = from (read-or-refused Older limit)
+    where
+      from : (Older ≡ c .form) ⊎ (good-head limit Older half ≡ false) → good-head limit Older half ≡ false
+      from (inl e) = absurd (unread (sym e))
+      from (inr e) = e
 
   pub associated-is : stored-associated (c .form) (sealed key c ++ rest) ≡ associated c
   unfolding stored-associated

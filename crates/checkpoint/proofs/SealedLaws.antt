@@ -7,8 +7,8 @@ use native.Mathlib.Omega.{arith}
 use native.Mathlib.Nat.{add-zero, mul-add}
 use lib.ListN.{length, length-append}
 use lib.Seq.{take-at, drop-at}
-use borrow.Author.Tests.{eqb-true, ltb-false, not-false}
-use Rattle.octets.specs.Limits.{part-limit, tag-length}
+use borrow.Author.Tests.{eqb-true, le-ltb, ltb-false, not-false}
+use Rattle.octets.specs.Limits.{tag-length}
 use Rattle.octets.specs.Octets.{part}
 use Rattle.octets.specs.Word.{word, word-at}
 use Rattle.octets.proofs.Numbers.{length-word, word-front, word-behind}
@@ -21,15 +21,15 @@ use Rattle.checkpoint.specs.Layout.{PacketInRange, InRange}
 -- ---- parts
 
 -- what a part that passes stop 4 is; an empty one passes
-pub part-sizes : (p : List ℕ) → part-wrong p ≡ false → (length p % 4 ≡ 0) × (length p ≤ part-limit)
+pub part-sizes : (limit : ℕ) (p : List ℕ) → part-wrong limit p ≡ false → (length p % 4 ≡ 0) × (length p ≤ limit)
 unfolding part-wrong
-part-sizes p e =
+part-sizes limit p e =
     let x = neither _ _ e in
-    (eqb-true (length p % 4) 0 (not-false _ (x .0)), ltb-false part-limit (length p) (x .1))
+    (eqb-true (length p % 4) 0 (not-false _ (x .0)), ltb-false limit (length p) (x .1))
 
-pub empty-passes : part-wrong [] ≡ false
+pub empty-passes : (limit : ℕ) → part-wrong limit [] ≡ false
 unfolding part-wrong
-empty-passes = refl
+empty-passes limit = le-ltb limit 0 (omega arith)
 
 -- ---- the head of either form
 

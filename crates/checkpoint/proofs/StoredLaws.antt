@@ -8,7 +8,7 @@ use native.Mathlib.Omega.{arith}
 use lib.ListN.{length, take, drop, getD, take-append-drop}
 use lib.Seq.{take-add, drop-drop}
 use borrow.Author.Tests.{eqb-true, leb-true}
-use Rattle.octets.specs.Limits.{part-limit, restart-limit, packet-limit, tag-length}
+use Rattle.octets.specs.Limits.{restart-limit, packet-limit, tag-length}
 use Rattle.octets.specs.Octets.{part, number, bytes}
 use Rattle.octets.specs.Word.{word, word-at, kind-of, value-of}
 use Rattle.octets.proofs.Laws.{and-true, same-equal, length-part}
@@ -38,16 +38,16 @@ word-again xs i kind h b e =
 
 -- ---- a good head
 
-pub record GoodHead (form : Form) (half : List ℕ) : Type 0 where
+pub record GoodHead (limit : ℕ) (form : Form) (half : List ℕ) : Type 0 where
   pub kinds : kinds-from half 0 (head-words form 0 0 0 0) ≡ true
-  pub open-small : open-length form half ≤ part-limit
-  pub secret-small : secret-length form half ≤ part-limit
+  pub open-small : open-length form half ≤ limit
+  pub secret-small : secret-length form half ≤ limit
   pub restarts-small : stored-restarts form half ≤ restart-limit
   pub fits : sealed-length form (open-length form half) (secret-length form half) ≤ length half
 
-pub head-facts : (form : Form) (half : List ℕ) → good-head form half ≡ true → GoodHead form half
+pub head-facts : (limit : ℕ) (form : Form) (half : List ℕ) → good-head limit form half ≡ true → GoodHead limit form half
 unfolding good-head stored-length
-head-facts form half e =
+head-facts limit form half e =
     let a = and-true _ _ e in
     let b = and-true _ _ (a .0) in
     let c = and-true _ _ (b .0) in
@@ -91,9 +91,9 @@ packet-small Longer packet n = n
 
 -- ---- what is stored
 
-module _ (form : Form) (key nonce half : List ℕ) (good : good-head form half ≡ true) where
-  facts : GoodHead form half
-  facts = head-facts form half good
+module _ (limit : ℕ) (form : Form) (key nonce half : List ℕ) (good : good-head limit form half ≡ true) where
+  facts : GoodHead limit form half
+  facts = head-facts limit form half good
 
   pub length-open : length (stored-open form half) ≡ open-length form half
   unfolding stored-open
@@ -111,16 +111,20 @@ module _ (form : Form) (key nonce half : List ℕ) (good : good-head form half �
   length-previous = length-part half (words-length form) tag-length (omega (arith, facts .fits))
 
   pub stored-in-range : InRange (stored form key nonce half)
-  unfolding stored open-length secret-length
+  unfolding stored open-length secret-length value-at value-of
   stored-in-range = record {
     open-whole = omega (arith, length-open);
-    open-small = omega (arith, length-open, facts .open-small);
+    open-small = omega (arith, length-open);
     secret-whole = omega (arith, length-secret);
-    secret-small = omega (arith, length-secret, facts .secret-small);
+    secret-small = omega (arith, length-secret);
     restarts-small = facts .restarts-small;
     packet-small = stored-packet-small form half;
     previous-long = length-previous;
   }
+
+  pub stored-small : (length (stored form key nonce half .open-part) ≤ limit) × (length (stored form key nonce half .secret) ≤ limit)
+  unfolding stored
+  stored-small = (omega (arith, length-open, facts .open-small), omega (arith, length-secret, facts .secret-small))
 
   stored-bytes : stored-associated form half ++ stored-cipher form half ++ stored-tag form half ≡ take (stored-length form half) half
   unfolding stored-associated stored-cipher stored-tag stored-length

@@ -4,11 +4,11 @@ use mathlib.Core.Bool.{Bool, not, _||_}
 use mathlib.Core.List.{List, [], _∷_, _++_}
 use lib.ListN.{length}
 use lib.Dec.{eqb, ltb}
-use Rattle.octets.specs.Limits.{part-limit, tag-length}
+use Rattle.octets.specs.Limits.{tag-length}
 use Rattle.octets.specs.Word.{word}
 use Rattle.gcm.specs.Gcm.{encrypted, tag}
 
--- the form of a head: document 01's, which older firmware writes, or document 02's, which begins with the packet number
+-- the form of a head: document 01's, or document 02's, which begins with the packet number
 pub data Form : Type 0 where
   Older : Form
   Longer : Form
@@ -90,6 +90,6 @@ empty-length form = head-length form + tag-length
 abbrev pub sealed-length : Form → ℕ → ℕ → ℕ
 sealed-length form m n = empty-length form + m + n
 
--- stop 4: a part is not a multiple of 4 bytes, or too long
-unfoldable pub part-wrong : List ℕ → Bool
-part-wrong p = not (eqb (length p % 4) 0) || ltb part-limit (length p)
+-- stop 4: a part is not a multiple of 4 bytes, or longer than a limit
+unfoldable pub part-wrong : ℕ → List ℕ → Bool
+part-wrong limit p = not (eqb (length p % 4) 0) || ltb limit (length p)

@@ -4,12 +4,12 @@ use mathlib.Core.Bool.{Bool, not, _||_}
 use mathlib.Core.List.{List}
 use lib.ListN.{length}
 use lib.Dec.{eqb, ltb}
-use Rattle.octets.specs.Limits.{fram-least, fram-limit, fram-step}
+use Rattle.octets.specs.Limits.{fram-least, fram-step}
 use Rattle.octets.specs.Octets.{part}
 
--- stop 2: the image's length is wrong
-unfoldable pub fram-wrong : List ℕ → Bool
-fram-wrong fram = ltb (length fram) fram-least || ltb fram-limit (length fram) || not (eqb (length fram % fram-step) 0)
+-- stop 2: the image's length is wrong, for firmware that takes images up to a limit
+unfoldable pub fram-wrong : ℕ → List ℕ → Bool
+fram-wrong limit fram = ltb (length fram) fram-least || ltb limit (length fram) || not (eqb (length fram % fram-step) 0)
 
 unfoldable pub half-length : List ℕ → ℕ
 half-length fram = length fram / 2

@@ -1,10 +1,11 @@
 -- Reading a half of the FRAM (document 01, "A half of the FRAM", and stops 11 and 12 of its table; document 02, A.2).
 use Prim.Native.Nat.{ℕ, suc, _+_, _*_}
+use mathlib.Core.Path.{_≡_}
 use mathlib.Core.Bool.{Bool, true, cond, _&&_}
 use mathlib.Core.List.{List, [], _∷_}
 use lib.ListN.{length}
 use lib.Dec.{eqb, leb}
-use Rattle.octets.specs.Limits.{part-limit, restart-limit, tag-length}
+use Rattle.octets.specs.Limits.{restart-limit, tag-length}
 use Rattle.octets.specs.Octets.{part, same}
 use Rattle.octets.specs.Word.{word-at, kind-of, value-of}
 use Rattle.gcm.specs.Gcm.{encrypted, tag}
@@ -21,10 +22,15 @@ value-at half i = value-of (word-at half (4 * i))
 unfoldable pub form-of : List ℕ → Form
 form-of half = cond (eqb (kind-at half 0) 1) Older Longer
 
--- how firmware that writes heads of a form reads a half: older firmware takes every half for its own form, newer goes by the first word
+-- how firmware that writes heads of a form reads a half: that of the older form takes every half for its own, that of the longer one goes by the first word
 abbrev pub read-as : Form → List ℕ → Form
 read-as Older half = Older
 read-as Longer half = form-of half
+
+-- firmware that writes heads of the first form reads those of the second: its own, and the older ones
+abbrev pub Reads : Form → Form → Type 0
+Reads Older form = form ≡ Older
+Reads Longer form = Unit {0}
 
 -- ---- what a head of a form says
 
@@ -50,10 +56,10 @@ kinds-from half i (w ∷ more) = eqb (kind-at half i) (w .0) && kinds-from half 
 unfoldable pub stored-length : Form → List ℕ → ℕ
 stored-length form half = sealed-length form (open-length form half) (secret-length form half)
 
--- not stop 11: the head's words have their kinds and are in range, and the checkpoint fits the half
-unfoldable pub good-head : Form → List ℕ → Bool
-good-head form half =
-    kinds-from half 0 (head-words form 0 0 0 0) && leb (open-length form half) part-limit && leb (secret-length form half) part-limit &&
+-- not stop 11: the head's words have their kinds and are in range, the parts' lengths being up to a limit, and the checkpoint fits the half
+unfoldable pub good-head : ℕ → Form → List ℕ → Bool
+good-head limit form half =
+    kinds-from half 0 (head-words form 0 0 0 0) && leb (open-length form half) limit && leb (secret-length form half) limit &&
     leb (stored-restarts form half) restart-limit && leb (stored-length form half) (length half)
 
 -- ---- its parts

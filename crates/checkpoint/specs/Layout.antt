@@ -3,7 +3,7 @@ use Prim.Native.Nat.{ℕ, _+_, _-_, _/_, _%_, _≤_}
 use mathlib.Core.Path.{_≡_}
 use mathlib.Core.List.{List}
 use lib.ListN.{length}
-use Rattle.octets.specs.Limits.{part-limit, restart-limit, packet-limit, tag-length}
+use Rattle.octets.specs.Limits.{part-most, restart-limit, packet-limit, tag-length}
 use Rattle.octets.specs.Octets.{part}
 use Rattle.octets.specs.Word.{word-at}
 use Rattle.gcm.specs.Gcm.{encrypted}
@@ -14,12 +14,12 @@ abbrev pub PacketInRange : Form → ℕ → Type 0
 PacketInRange Older packet = packet ≡ 0
 PacketInRange Longer packet = packet ≤ packet-limit
 
--- both parts are whole words and not too long, the restarts and the packet number in range, and the previous tag is 16 bytes
+-- both parts are whole words whose number fits a word of the head, the restarts and the packet number in range, and the previous tag is 16 bytes
 pub record InRange (c : Checkpoint) : Type 0 where
   pub open-whole : length (c .open-part) % 4 ≡ 0
-  pub open-small : length (c .open-part) ≤ part-limit
+  pub open-small : length (c .open-part) ≤ part-most
   pub secret-whole : length (c .secret) % 4 ≡ 0
-  pub secret-small : length (c .secret) ≤ part-limit
+  pub secret-small : length (c .secret) ≤ part-most
   pub restarts-small : c .restarts ≤ restart-limit
   pub packet-small : PacketInRange (c .form) (c .packet)
   pub previous-long : length (c .previous) ≡ tag-length

@@ -16,7 +16,7 @@ ghost use mathlib.Core.Bool.{true};
 ghost use mathlib.Core.List.{List};
 ghost use Prim.Native.Nat.{ℕ, _+_, _-_, _*_, _^_, _<_, _≤_};
 ghost use lib.ListN.{length};
-ghost use Rattle.octets.specs.Limits.{nonce-length};
+ghost use Rattle.octets.specs.Limits.{nonce-length, part-limit};
 ghost use Rattle.octets.specs.Octets.{part, put};
 ghost use Rattle.aes.specs.Word.{RoundTable};
 ghost use Rattle.aes.specs.Cipher.{cipher, aes};
@@ -39,7 +39,7 @@ pub struct Head {
 // The head whose words from the open part's length on stand at offset i; `front` is whether those before it have their kinds.
 fn read_words(half: &[u8], i: usize, front: bool, packet: usize) -> Head
     requires { ⌜ (i ≤ 4) × (empty-length Older ≤ length (now half)) ⌝ }
-    ensures { λ r. ⌜ ((form : Form) → i ≡ 4 * open-word form → front ≡ kinds-from (now (half .entry)) 0 (front-words form 0) → packet ≡ stored-packet form (now (half .entry)) → (r .good ≡ good-head form (now (half .entry))) × (r .start ≡ head-length form) × (r .packet ≡ stored-packet form (now (half .entry))) × (r .open ≡ open-length form (now (half .entry))) × (r .secret ≡ secret-length form (now (half .entry))) × (r .restarts ≡ stored-restarts form (now (half .entry)))) ⌝ }
+    ensures { λ r. ⌜ ((form : Form) → i ≡ 4 * open-word form → front ≡ kinds-from (now (half .entry)) 0 (front-words form 0) → packet ≡ stored-packet form (now (half .entry)) → (r .good ≡ good-head part-limit form (now (half .entry))) × (r .start ≡ head-length form) × (r .packet ≡ stored-packet form (now (half .entry))) × (r .open ≡ open-length form (now (half .entry))) × (r .secret ≡ secret-length form (now (half .entry))) × (r .restarts ≡ stored-restarts form (now (half .entry)))) ⌝ }
 {
     let first = word_at(half, i);
     let second = word_at(half, i + 4);
@@ -67,7 +67,7 @@ fn read_words(half: &[u8], i: usize, front: bool, packet: usize) -> Head
 // The head of either form: a first word of kind 1 means the older one.
 pub fn read_head(half: &[u8]) -> Head
     requires { ⌜ empty-length Older ≤ length (now half) ⌝ }
-    ensures { λ r. ⌜ (r .good ≡ good-head (form-of (now (half .entry))) (now (half .entry))) × (r .start ≡ head-length (form-of (now (half .entry)))) × (r .packet ≡ stored-packet (form-of (now (half .entry))) (now (half .entry))) × (r .open ≡ open-length (form-of (now (half .entry))) (now (half .entry))) × (r .secret ≡ secret-length (form-of (now (half .entry))) (now (half .entry))) × (r .restarts ≡ stored-restarts (form-of (now (half .entry))) (now (half .entry))) ⌝ }
+    ensures { λ r. ⌜ (r .good ≡ good-head part-limit (form-of (now (half .entry))) (now (half .entry))) × (r .start ≡ head-length (form-of (now (half .entry)))) × (r .packet ≡ stored-packet (form-of (now (half .entry))) (now (half .entry))) × (r .open ≡ open-length (form-of (now (half .entry))) (now (half .entry))) × (r .secret ≡ secret-length (form-of (now (half .entry))) (now (half .entry))) × (r .restarts ≡ stored-restarts (form-of (now (half .entry))) (now (half .entry))) ⌝ }
 {
     let first = word_at(half, 0);
     let kind = kind_of(first);
@@ -108,7 +108,7 @@ pub fn good_tag(
     open: usize,
     secret: usize,
 ) -> bool
-    requires { ⌜ Prepared (now table) (now keys) (now steps) rounds × (length (now nonce) ≡ nonce-length) × (good-head (form-of (now half)) (now half) ≡ true) × (start ≡ head-length (form-of (now half))) × («open» ≡ open-length (form-of (now half)) (now half)) × (secret ≡ secret-length (form-of (now half)) (now half)) ⌝ }
+    requires { ⌜ Prepared (now table) (now keys) (now steps) rounds × (length (now nonce) ≡ nonce-length) × (good-head part-limit (form-of (now half)) (now half) ≡ true) × (start ≡ head-length (form-of (now half))) × («open» ≡ open-length (form-of (now half)) (now half)) × (secret ≡ secret-length (form-of (now half)) (now half)) ⌝ }
     ensures { λ r. ⌜ ((key : List ℕ) → cipher rounds (now (keys .entry)) ≡ aes key → r ≡ good-tag (form-of (now (half .entry))) key (now (nonce .entry)) (now (half .entry))) ⌝ }
 {
     let i = start + open;
@@ -119,7 +119,7 @@ pub fn good_tag(
 
 // The open part itself, from byte 28 or 32 of the half on, by the form of its head.
 pub fn open_part(half: &[u8], start: usize, open: usize) -> &[u8]
-    requires { ⌜ (good-head (form-of (now half)) (now half) ≡ true) × (start ≡ head-length (form-of (now half))) × («open» ≡ open-length (form-of (now half)) (now half)) ⌝ }
+    requires { ⌜ (good-head part-limit (form-of (now half)) (now half) ≡ true) × (start ≡ head-length (form-of (now half))) × («open» ≡ open-length (form-of (now half)) (now half)) ⌝ }
     ensures { λ r. ⌜ (now r ≡ stored-open (form-of (now (half .entry))) (now (half .entry))) × (length (now r) ≡ «open») ⌝ }
 {
     part(half, start, open)
@@ -137,7 +137,7 @@ pub fn open_secret(
     secret: usize,
     state: &mut [u8],
 )
-    requires { ⌜ RoundTable (now table) × (0 < rounds) × (rounds < 15) × (length (now nonce) ≡ nonce-length) × (good-head (form-of (now half)) (now half) ≡ true) × (start ≡ head-length (form-of (now half))) × («open» ≡ open-length (form-of (now half)) (now half)) × (secret ≡ secret-length (form-of (now half)) (now half)) × (secret ≤ length (now state)) ⌝ }
+    requires { ⌜ RoundTable (now table) × (0 < rounds) × (rounds < 15) × (length (now nonce) ≡ nonce-length) × (good-head part-limit (form-of (now half)) (now half) ≡ true) × (start ≡ head-length (form-of (now half))) × («open» ≡ open-length (form-of (now half)) (now half)) × (secret ≡ secret-length (form-of (now half)) (now half)) × (secret ≤ length (now state)) ⌝ }
     ensures { λ _. ⌜ ((key : List ℕ) → cipher rounds (now (keys .entry)) ≡ aes key → now (state .exit) ≡ put (now (state .entry)) 0 (stored (form-of (now (half .entry))) key (now (nonce .entry)) (now (half .entry)) .secret)) ⌝ }
 {
     encrypt(

@@ -60,7 +60,7 @@ pub fn good_tag_under(
     open: usize,
     secret: usize,
 ) -> bool
-    requires { ⌜ (length (now key) ≡ key-length) × (length (now nonce) ≡ nonce-length) × (good-head (form-of (now half)) (now half) ≡ true) × (start ≡ head-length (form-of (now half))) × («open» ≡ open-length (form-of (now half)) (now half)) × (secret ≡ secret-length (form-of (now half)) (now half)) ⌝ }
+    requires { ⌜ (length (now key) ≡ key-length) × (length (now nonce) ≡ nonce-length) × (good-head part-limit (form-of (now half)) (now half) ≡ true) × (start ≡ head-length (form-of (now half))) × («open» ≡ open-length (form-of (now half)) (now half)) × (secret ≡ secret-length (form-of (now half)) (now half)) ⌝ }
     ensures { λ r. ⌜ r ≡ good-tag (form-of (now (half .entry))) (now (key .entry)) (now (nonce .entry)) (now (half .entry)) ⌝ }
 {
     let rounds = key.len() / 4 + 6;

@@ -20,7 +20,7 @@ ghost use mathlib.Core.Path.{_≡_};
 ghost use mathlib.Core.Bool.{true};
 ghost use Prim.Native.Nat.{_<_, _≤_};
 ghost use lib.ListN.{length};
-ghost use Rattle.octets.specs.Limits.{packet-limit};
+ghost use Rattle.octets.specs.Limits.{packet-limit, part-limit};
 ghost use Rattle.checkpoint.specs.Checkpoint.{head-length};
 ghost use Rattle.checkpoint.specs.Half.{form-of, open-length, secret-length, good-head};
 
@@ -163,7 +163,7 @@ fn show(c: Case)
 
 // Whether the open part is the one sealed.
 fn open_agrees(half: &[u8], start: usize, open: usize) -> bool
-    requires { ⌜ (good-head (form-of (now half)) (now half) ≡ true) × (start ≡ head-length (form-of (now half))) × («open» ≡ open-length (form-of (now half)) (now half)) × («open» ≤ 4096) ⌝ }
+    requires { ⌜ (good-head part-limit (form-of (now half)) (now half) ≡ true) × (start ≡ head-length (form-of (now half))) × («open» ≡ open-length (form-of (now half)) (now half)) × («open» ≤ 4096) ⌝ }
 {
     let first = first_part();
     same(open_part(half, start, open), part(&first, 0, open))
@@ -187,7 +187,7 @@ fn head_agrees(head: Head, c: Case) -> bool {
 
 // Stop 12, or 0 where both parts are the ones sealed, else 1.
 fn opened(half: &[u8], start: usize, open: usize, secret: usize, first: u8) -> usize
-    requires { ⌜ (good-head (form-of (now half)) (now half) ≡ true) × (start ≡ head-length (form-of (now half))) × («open» ≡ open-length (form-of (now half)) (now half)) × (secret ≡ secret-length (form-of (now half)) (now half)) × («open» ≤ 4096) × (secret ≤ 4096) ⌝ }
+    requires { ⌜ (good-head part-limit (form-of (now half)) (now half) ≡ true) × (start ≡ head-length (form-of (now half))) × («open» ≡ open-length (form-of (now half)) (now half)) × (secret ≡ secret-length (form-of (now half)) (now half)) × («open» ≤ 4096) × (secret ≤ 4096) ⌝ }
 {
     let same_open = open_agrees(half, start, open);
     let table = round_table();

@@ -8,16 +8,16 @@ use native.Mathlib.Omega.{arith}
 use lib.ListN.{length}
 use lib.Dec.{eqb, leb, ltb}
 use borrow.Author.Tests.{eqb-true, leb-false, leb-true, ltb-false, not-false, le-leb, lt-leb}
-use Rattle.octets.specs.Limits.{slot-length}
+use Rattle.octets.specs.Limits.{slot-length, fram-limit}
 use Rattle.stops.specs.Stops.{first-of, then-stop}
 use Rattle.stops.proofs.Laws.{passes, neither, tried, first-append}
 use Rattle.ring.specs.Ring.{ring-wrong}
 use Rattle.ring.proofs.SizeLaws.{sized, page-ends, slot-ends}
 use Rattle.checkpoint.specs.Fram.{fram-wrong, half-length}
 use Rattle.checkpoint.specs.Checkpoint.{Longer, empty-length}
-use Rattle.checkpoint.proofs.FramLaws.{half-within}
+use Rattle.checkpoint.proofs.FramLaws.{an-image, half-within}
 use Rattle.memories.specs.Stages.{of-memories}
-use Rattle.protocol.specs.Types.{Phase, EraseFirst, Words, EraseAfter, Job}
+use Rattle.protocol.specs.Types.{Phase, EraseFirst, Words, EraseAfter, Job, this-firmware}
 use Rattle.protocol.specs.Calls.{Sizes, Advances}
 use Rattle.protocol.specs.Operations.{staging-wrong, phase-wrong, job-wrong, advance-stop, Moved, store}
 
@@ -61,12 +61,12 @@ placed j z fram e =
 
 pub record Ready (j : Job) (z : Sizes) (ring fram staging : List ℕ) : Type 0 where
   pub ring-right : ring-wrong (z .pages) (z .slots) ring ≡ false
-  pub fram-right : fram-wrong fram ≡ false
+  pub fram-right : fram-wrong fram-limit fram ≡ false
   pub staging-long : half-length fram ≤ length staging
   pub numbers : Placed j z fram
   pub phase-right : phase-wrong (j .phase) j z ring ≡ false
 
-pub ready : (ring fram : List ℕ) (a : Advances) → advance-stop Longer ring fram a ≡ none → Ready (a .job) (a .sizes) ring fram (a .staging)
+pub ready : (ring fram : List ℕ) (a : Advances) → advance-stop this-firmware ring fram a ≡ none → Ready (a .job) (a .sizes) ring fram (a .staging)
 unfolding advance-stop job-wrong staging-wrong
 ready ring fram a e =
     let p = passes _ e in
@@ -103,7 +103,7 @@ module _ {j : Job} {z : Sizes} {ring fram staging : List ℕ} (r : Ready j z rin
       let n = r .numbers in
       let l : 4 * w < j .length = word-ready w e in
       let h : j .half ≤ 1 = omega arith in
-      (omega (arith, half-within fram (j .half) (r .fram-right) h), omega arith)
+      (omega (arith, half-within fram (j .half) (an-image fram-limit fram (r .fram-right)) h), omega arith)
 
 -- ---- the stops in two stages: those of the memories, then those of the job
 
@@ -114,11 +114,11 @@ module _ (ring fram : List ℕ) (a : Advances) where
   abbrev job-lines : List (ℕ × Bool)
   job-lines = (4, staging-wrong (a .staging) fram) ∷ (14, job-wrong Longer (a .job) (a .sizes) ring fram) ∷ []
 
-  pub memories-stop : (s : ℕ) → first-of memory-lines ≡ some s → advance-stop Longer ring fram a ≡ some s
+  pub memories-stop : (s : ℕ) → first-of memory-lines ≡ some s → advance-stop this-firmware ring fram a ≡ some s
   unfolding advance-stop tried
   memories-stop s e = first-append memory-lines job-lines e
 
-  pub memories-pass : first-of memory-lines ≡ none → advance-stop Longer ring fram a ≡ then-stop (then-stop none 4 (staging-wrong (a .staging) fram)) 14 (job-wrong Longer (a .job) (a .sizes) ring fram)
+  pub memories-pass : first-of memory-lines ≡ none → advance-stop this-firmware ring fram a ≡ then-stop (then-stop none 4 (staging-wrong (a .staging) fram)) 14 (job-wrong Longer (a .job) (a .sizes) ring fram)
   unfolding advance-stop tried
   memories-pass e = first-append memory-lines job-lines e
 

@@ -16,7 +16,7 @@ use Rattle.ring.specs.Ring.{Newest, ring-wrong, read-ring, newest-record, half-
 use Rattle.checkpoint.specs.Checkpoint.{Longer, Checkpoint, part-wrong, sealed-length, checkpoint-of}
 use Rattle.checkpoint.specs.Fram.{half-length}
 use Rattle.memories.specs.Stages.{of-memories}
-use Rattle.protocol.specs.Types.{Words, Save}
+use Rattle.protocol.specs.Types.{Words, Save, this-firmware}
 use Rattle.protocol.specs.Calls.{SaveArguments, FirstSave, Saves}
 use Rattle.protocol.specs.Operations.{key-wrong, nonce-wrong, tag-wrong, parts-wrong, staging-wrong, packet-wrong, stale, session-wrong, Begin, begin, job-of, written-number, first-checkpoint, save-restarts, larger, save-checkpoint, first-save-stop, first-save, save-stop, save}
 use Rattle.jobs.specs.Stages.{stopped, save-buffers, save-ring}
@@ -25,7 +25,7 @@ use Rattle.jobs.specs.Stages.{stopped, save-buffers, save-ring}
 
 pub buffers-tried : (ring fram : List ℕ) (a : SaveArguments) (c d : Bool) (o₂ o₃ o₄ o₁₈ : Option ℕ)
     → o₂ ≡ first-of (of-memories (a .sizes .pages) (a .sizes .slots) ring fram)
-    → c ≡ key-wrong (length (a .key)) || nonce-wrong (length (a .nonce)) → d ≡ parts-wrong Longer (a .open-part) (a .secret) fram || staging-wrong (a .staging) fram
+    → c ≡ key-wrong (length (a .key)) || nonce-wrong (length (a .nonce)) → d ≡ parts-wrong this-firmware (a .open-part) (a .secret) fram || staging-wrong (a .staging) fram
     → o₃ ≡ then-stop o₂ 3 c → o₄ ≡ then-stop o₃ 4 d → o₁₈ ≡ then-stop o₄ 18 (ltb packet-limit (a .packet)) → o₁₈ ≡ first-of (save-buffers ring fram a)
 unfolding packet-wrong
 buffers-tried ring fram a c d o₂ o₃ o₄ o₁₈ e x y f g h =
@@ -34,9 +34,9 @@ buffers-tried ring fram a c d o₂ o₃ o₄ o₁₈ e x y f g h =
 pub first-tried : (ring fram : List ℕ) (a : FirstSave) (c d b : Bool) (o₂ o₃ o₄ o₁₈ o₅ : Option ℕ)
     → o₂ ≡ first-of (of-memories (a .arguments .sizes .pages) (a .arguments .sizes .slots) ring fram)
     → c ≡ key-wrong (length (a .arguments .key)) || nonce-wrong (length (a .arguments .nonce)) || tag-wrong (length (a .starting-tag))
-    → d ≡ parts-wrong Longer (a .arguments .open-part) (a .arguments .secret) fram || staging-wrong (a .arguments .staging) fram → b ≡ blank ring
+    → d ≡ parts-wrong this-firmware (a .arguments .open-part) (a .arguments .secret) fram || staging-wrong (a .arguments .staging) fram → b ≡ blank ring
     → o₃ ≡ then-stop o₂ 3 c → o₄ ≡ then-stop o₃ 4 d → o₁₈ ≡ then-stop o₄ 18 (ltb packet-limit (a .arguments .packet)) → o₅ ≡ then-stop o₁₈ 5 (not b)
-    → o₅ ≡ first-save-stop Longer ring fram a
+    → o₅ ≡ first-save-stop this-firmware ring fram a
 unfolding first-save-stop packet-wrong
 first-tried ring fram a c d b o₂ o₃ o₄ o₁₈ o₅ e x y z f g k h =
     one-more (_ ∷ _ ∷ _ ∷ _ ∷ _ ∷ []) 5 _ (not b) o₁₈ o₅
@@ -52,17 +52,17 @@ pub record Lengths (fram : List ℕ) (a : SaveArguments) : Type 0 where
   pub secret : length (a .secret) ≤ part-limit
   pub staging : sealed-length Longer (length (a .open-part)) (length (a .secret)) ≤ length (a .staging)
 
-pub small : (p : List ℕ) → part-wrong p ≡ false → length p ≤ part-limit
+pub small : (p : List ℕ) → part-wrong part-limit p ≡ false → length p ≤ part-limit
 unfolding part-wrong
 small p e = ltb-false part-limit (length p) (neither (not (eqb (length p % 4) 0)) (ltb part-limit (length p)) e .1)
 
 pub lengths : (fram : List ℕ) (a : SaveArguments) → key-wrong (length (a .key)) ≡ false → nonce-wrong (length (a .nonce)) ≡ false
-    → parts-wrong Longer (a .open-part) (a .secret) fram || staging-wrong (a .staging) fram ≡ false → packet-wrong Longer (a .packet) ≡ false → Lengths fram a
+    → parts-wrong this-firmware (a .open-part) (a .secret) fram || staging-wrong (a .staging) fram ≡ false → packet-wrong Longer (a .packet) ≡ false → Lengths fram a
 unfolding parts-wrong staging-wrong packet-wrong
 lengths fram a k n e h =
-    let p = neither (parts-wrong Longer (a .open-part) (a .secret) fram) (staging-wrong (a .staging) fram) e in
-    let q = neither (part-wrong (a .open-part) || part-wrong (a .secret)) (ltb (half-length fram) (sealed-length Longer (length (a .open-part)) (length (a .secret)))) (p .0) in
-    let r = neither (part-wrong (a .open-part)) (part-wrong (a .secret)) (q .0) in
+    let p = neither (parts-wrong this-firmware (a .open-part) (a .secret) fram) (staging-wrong (a .staging) fram) e in
+    let q = neither (part-wrong part-limit (a .open-part) || part-wrong part-limit (a .secret)) (ltb (half-length fram) (sealed-length Longer (length (a .open-part)) (length (a .secret)))) (p .0) in
+    let r = neither (part-wrong part-limit (a .open-part)) (part-wrong part-limit (a .secret)) (q .0) in
     let fits = ltb-false (half-length fram) (sealed-length Longer (length (a .open-part)) (length (a .secret))) (q .1) in
     let long = ltb-false (length (a .staging)) (half-length fram) (p .1) in
     record {
@@ -74,7 +74,7 @@ lengths fram a k n e h =
       staging = omega (arith, fits, long);
     }
 
-pub first-lengths : (ring fram : List ℕ) (a : FirstSave) → first-save-stop Longer ring fram a ≡ none → Lengths fram (a .arguments) × (length (a .starting-tag) ≡ tag-length)
+pub first-lengths : (ring fram : List ℕ) (a : FirstSave) → first-save-stop this-firmware ring fram a ≡ none → Lengths fram (a .arguments) × (length (a .starting-tag) ≡ tag-length)
 unfolding first-save-stop
 first-lengths ring fram a e =
     let p = passes _ e in
@@ -95,12 +95,12 @@ buffers-pass ring fram a e =
 -- ---- what first save answers
 
 module _ (ring fram : List ℕ) (a : FirstSave) where
-  pub first-stops : (r : Begin) {s : ℕ} → r ≡ stopped s (a .arguments .staging) [] → first-save-stop Longer ring fram a ≡ some s → r ≡ first-save Longer ring fram a
+  pub first-stops : (r : Begin) {s : ℕ} → r ≡ stopped s (a .arguments .staging) [] → first-save-stop this-firmware ring fram a ≡ some s → r ≡ first-save this-firmware ring fram a
   unfolding first-save begin
   first-stops r e f = rw f e
 
   pub first-begins : (r : Begin) → (let c = checkpoint-of (a .arguments .packet) (a .arguments .open-part) (a .arguments .secret) 0 (a .starting-tag) (a .arguments .nonce) in
-      r ≡ begin none (a .arguments .key) c (job-of (a .arguments .key) c (Words 0) Save 0 0 0) (a .arguments .staging) [] []) → first-save-stop Longer ring fram a ≡ none → r ≡ first-save Longer ring fram a
+      r ≡ begin none (a .arguments .key) c (job-of (a .arguments .key) c (Words 0) Save 0 0 0) (a .arguments .staging) [] []) → first-save-stop this-firmware ring fram a ≡ none → r ≡ first-save this-firmware ring fram a
   unfolding first-save first-checkpoint written-number
   first-begins r e f = rw f e
 
@@ -113,11 +113,11 @@ module _ (ring fram : List ℕ) (a : Saves) where
   abbrev pub ring-lines : List (ℕ × Bool)
   ring-lines = save-ring ring (a .arguments .sizes .slots) read (a .session) (a .arguments .nonce)
 
-  pub buffers-stop : {s : ℕ} → first-of (save-buffers ring fram (a .arguments)) ≡ some s → save-stop Longer ring fram a ≡ some s
+  pub buffers-stop : {s : ℕ} → first-of (save-buffers ring fram (a .arguments)) ≡ some s → save-stop this-firmware ring fram a ≡ some s
   unfolding save-stop tried
   buffers-stop e = first-append (save-buffers ring fram (a .arguments)) ring-lines e
 
-  pub on-ring : first-of (save-buffers ring fram (a .arguments)) ≡ none → save-stop Longer ring fram a ≡ first-of ring-lines
+  pub on-ring : first-of (save-buffers ring fram (a .arguments)) ≡ none → save-stop this-firmware ring fram a ≡ first-of ring-lines
   unfolding save-stop
   on-ring e = first-append (save-buffers ring fram (a .arguments)) ring-lines e ∙ tried-first ring-lines
 
@@ -129,7 +129,7 @@ module _ (ring fram : List ℕ) (a : Saves) where
       let m = neither (ltb restart-limit (s .restarts)) (ltb packet-limit (s .packet)) (n .1) in
       (ltb-false restart-limit (s .restarts) (m .0), ltb-false packet-limit (s .packet) (m .1))
 
-  pub save-stops : (r : Begin) {s : ℕ} → r ≡ stopped s (a .arguments .staging) [] → save-stop Longer ring fram a ≡ some s → r ≡ save Longer ring fram a
+  pub save-stops : (r : Begin) {s : ℕ} → r ≡ stopped s (a .arguments .staging) [] → save-stop this-firmware ring fram a ≡ some s → r ≡ save this-firmware ring fram a
   unfolding save begin
   save-stops r e f = rw f e
 
@@ -138,8 +138,8 @@ module _ (ring fram : List ℕ) (a : Saves) where
       → half ≡ 1 - half-named (newest-record ring (a .arguments .sizes .slots) read)
       → page ≡ target-page (a .arguments .sizes .pages) (a .arguments .sizes .slots) read → slot ≡ target-slot (a .arguments .sizes .slots) read
       → (let c = checkpoint-of packet (a .arguments .open-part) (a .arguments .secret) restarts (a .session .tag) (a .arguments .nonce) in
-      r ≡ begin none (a .arguments .key) c (job-of (a .arguments .key) c (Words 0) Save half page slot) (a .arguments .staging) [] []) → save-stop Longer ring fram a ≡ none
-      → r ≡ save Longer ring fram a
+      r ≡ begin none (a .arguments .key) c (job-of (a .arguments .key) c (Words 0) Save half page slot) (a .arguments .staging) [] []) → save-stop this-firmware ring fram a ≡ none
+      → r ≡ save this-firmware ring fram a
   unfolding save save-checkpoint written-number
   save-begins r packet restarts half page slot u v x y z e f =
       let c : ℕ → ℕ → Checkpoint = λ packet restarts. checkpoint-of packet (a .arguments .open-part) (a .arguments .secret) restarts (a .session .tag) (a .arguments .nonce) in

@@ -6,7 +6,7 @@ use lib.ListN.{length}
 use Rattle.ring.specs.Ring.{Newest, is-blank, is-unreadable, is-pending, nonce-used}
 use Rattle.checkpoint.specs.Checkpoint.{Longer}
 use Rattle.memories.specs.Stages.{of-memories}
-use Rattle.protocol.specs.Types.{Session, Stopped}
+use Rattle.protocol.specs.Types.{Session, Stopped, this-firmware}
 use Rattle.protocol.specs.Calls.{SaveArguments}
 use Rattle.protocol.specs.Operations.{Begin, no-job, key-wrong, nonce-wrong, parts-wrong, staging-wrong, packet-wrong, stale, session-wrong}
 
@@ -19,7 +19,7 @@ abbrev pub save-buffers : (ring fram : List ℕ) → SaveArguments → List (ℕ
 save-buffers ring fram a =
     of-memories (a .sizes .pages) (a .sizes .slots) ring fram ++ (
     (3, key-wrong (length (a .key)) || nonce-wrong (length (a .nonce))) ∷
-    (4, parts-wrong Longer (a .open-part) (a .secret) fram || staging-wrong (a .staging) fram) ∷
+    (4, parts-wrong this-firmware (a .open-part) (a .secret) fram || staging-wrong (a .staging) fram) ∷
     (18, packet-wrong Longer (a .packet)) ∷ [])
 
 -- those of save about the ring, which reads as n

@@ -26,7 +26,7 @@ ghost use Rattle.octets.specs.Limits.{slot-length};
 ghost use Rattle.stops.specs.View.{check-number, stop-number};
 ghost use Rattle.ring.specs.Ring.{ring-wrong, page-before};
 ghost use Rattle.checkpoint.specs.Checkpoint.{Longer};
-ghost use Rattle.protocol.specs.Types.{Words, Record, EraseAfter};
+ghost use Rattle.protocol.specs.Types.{Words, Record, EraseAfter, this-firmware};
 ghost use Rattle.protocol.specs.Calls.{sizes};
 ghost use Rattle.protocol.specs.Operations.{phase-wrong, job-wrong, advance-stop, going-on, finished, ended, erase-follows, store, advance-by, advance};
 ghost use Rattle.jobs.specs.View.{view-phase, view-origin, view-job, view-progress, view-advanced, advances};
@@ -72,7 +72,7 @@ impl Job {
 
     // Stops 1, 2, 4 and 14.
     fn check(self, pages: usize, slots: usize, ring: &[u8], fram: &[u8], staging: &[u8]) -> Check
-        ensures { λ r. ⌜ check-number r ≡ advance-stop Longer (now (ring .entry)) (now (fram .entry)) (advances pages slots self (now (staging .entry))) ⌝ }
+        ensures { λ r. ⌜ check-number r ≡ advance-stop this-firmware (now (ring .entry)) (now (fram .entry)) (advances pages slots self (now (staging .entry))) ⌝ }
     {
         match check_memories(ring, pages, slots, fram) {
             Check::Stopped(stop) => Check::Stopped(stop),
@@ -159,7 +159,7 @@ impl Job {
         fram: &mut [u8],
         staging: &[u8],
     ) -> Advanced
-        requires { ⌜ advance-stop Longer (now ring) (now fram) (advances pages slots self (now staging)) ≡ none ⌝ }
+        requires { ⌜ advance-stop this-firmware (now ring) (now fram) (advances pages slots self (now staging)) ≡ none ⌝ }
         ensures { λ r. ⌜ view-advanced r (now (ring .exit)) (now (fram .exit)) ≡ store (view-phase (self .phase)) (now (ring .entry)) (now (fram .entry)) (advances pages slots self (now (staging .entry))) ⌝ }
     {
         let phase = self.phase;
@@ -194,7 +194,7 @@ impl Job {
         fram: &mut [u8],
         staging: &[u8],
     ) -> Advanced
-        ensures { λ r. ⌜ view-advanced r (now (ring .exit)) (now (fram .exit)) ≡ advance Longer (now (ring .entry)) (now (fram .entry)) (advances pages slots self (now (staging .entry))) ⌝ }
+        ensures { λ r. ⌜ view-advanced r (now (ring .exit)) (now (fram .exit)) ≡ advance this-firmware (now (ring .entry)) (now (fram .entry)) (advances pages slots self (now (staging .entry))) ⌝ }
     {
         match self.check(pages, slots, ring, fram, staging) {
             Check::Stopped(stop) => self.refused(stop),

@@ -2,7 +2,7 @@
 use crate::types::Job;
 use crate::types::Moved;
 ghost use mathlib.Core.Path.{_≡_};
-ghost use Rattle.checkpoint.specs.Checkpoint.{Longer};
+ghost use Rattle.protocol.specs.Types.{this-firmware};
 ghost use Rattle.protocol.specs.Operations.{advance};
 ghost use Rattle.jobs.specs.View.{view-moved, advances};
 
@@ -15,7 +15,7 @@ pub fn advance_lent(
     fram: &mut [u8],
     staging: &[u8],
 ) -> Moved
-    ensures { λ r. ⌜ view-moved r (now (job .exit)) (now (ring .exit)) (now (fram .exit)) ≡ advance Longer (now (ring .entry)) (now (fram .entry)) (advances pages slots (now (job .entry)) (now (staging .entry))) ⌝ }
+    ensures { λ r. ⌜ view-moved r (now (job .exit)) (now (ring .exit)) (now (fram .exit)) ≡ advance this-firmware (now (ring .entry)) (now (fram .entry)) (advances pages slots (now (job .entry)) (now (staging .entry))) ⌝ }
 {
     let j = *job;
     let a = j.advance(pages, slots, ring, fram, staging);

@@ -37,14 +37,14 @@ ghost use Rattle.stops.specs.View.{check-number, stop-number};
 ghost use Rattle.ring.specs.Ring.{ring-wrong, Within};
 ghost use Rattle.ring.specs.View.{newest};
 ghost use Rattle.checkpoint.specs.Checkpoint.{Longer, sealed-length, checkpoint-of};
-ghost use Rattle.protocol.specs.Types.{Words, Save};
+ghost use Rattle.protocol.specs.Types.{Words, Save, this-firmware};
 ghost use Rattle.protocol.specs.Operations.{begin, job-of, parts-wrong, session-wrong, save-restarts, larger, first-save-stop, first-save, save-stop, save};
 ghost use Rattle.jobs.specs.View.{view-session, view-started, save-arguments, first-saves, saves};
 ghost use Rattle.jobs.specs.Stages.{save-buffers, save-ring, stopped};
 
 // Stop 4 of both parts.
 fn parts_wrong(open: &[u8], secret: &[u8], fram: &[u8]) -> bool
-    ensures { λ r. ⌜ r ≡ parts-wrong Longer (now («open» .entry)) (now (secret .entry)) (now (fram .entry)) ⌝ }
+    ensures { λ r. ⌜ r ≡ parts-wrong this-firmware (now («open» .entry)) (now (secret .entry)) (now (fram .entry)) ⌝ }
 {
     if part_wrong(open) | part_wrong(secret) {
         return true;
@@ -147,7 +147,7 @@ pub fn first_save_check(
     secret: &[u8],
     staging: &[u8],
 ) -> Check
-    ensures { λ r. ⌜ check-number r ≡ first-save-stop Longer (now (ring .entry)) (now (fram .entry)) (first-saves (save-arguments pages slots (now (key .entry)) (now (nonce .entry)) packet (now («open» .entry)) (now (secret .entry)) (now (staging .entry))) (now («starting_tag» .entry))) ⌝ }
+    ensures { λ r. ⌜ check-number r ≡ first-save-stop this-firmware (now (ring .entry)) (now (fram .entry)) (first-saves (save-arguments pages slots (now (key .entry)) (now (nonce .entry)) packet (now («open» .entry)) (now (secret .entry)) (now (staging .entry))) (now («starting_tag» .entry))) ⌝ }
 {
     let lengths = key_wrong(key.len()) | nonce_wrong(nonce.len()) | tag_wrong(starting_tag.len());
     let buffers = parts_wrong(open, secret, fram) | (staging.len() < fram.len() / 2);
@@ -172,7 +172,7 @@ pub fn first_save(
     secret: &[u8],
     staging: &mut [u8],
 ) -> Started
-    ensures { λ r. ⌜ view-started r (now (staging .exit)) ≡ first-save Longer (now (ring .entry)) (now (fram .entry)) (first-saves (save-arguments pages slots (now (key .entry)) (now (nonce .entry)) packet (now («open» .entry)) (now (secret .entry)) (now (staging .entry))) (now («starting_tag» .entry))) ⌝ }
+    ensures { λ r. ⌜ view-started r (now (staging .exit)) ≡ first-save this-firmware (now (ring .entry)) (now (fram .entry)) (first-saves (save-arguments pages slots (now (key .entry)) (now (nonce .entry)) packet (now («open» .entry)) (now (secret .entry)) (now (staging .entry))) (now («starting_tag» .entry))) ⌝ }
 {
     let check = first_save_check(
         pages,
@@ -269,7 +269,7 @@ fn save_on(
     staging: &mut [u8],
 ) -> Started
     requires { ⌜ first-of (save-buffers (now ring) (now fram) (save-arguments pages slots (now key) (now nonce) packet (now «open») (now secret) (now staging))) ≡ none ⌝ }
-    ensures { λ r. ⌜ view-started r (now (staging .exit)) ≡ save Longer (now (ring .entry)) (now (fram .entry)) (saves (save-arguments pages slots (now (key .entry)) (now (nonce .entry)) packet (now («open» .entry)) (now (secret .entry)) (now (staging .entry))) session) ⌝ }
+    ensures { λ r. ⌜ view-started r (now (staging .exit)) ≡ save this-firmware (now (ring .entry)) (now (fram .entry)) (saves (save-arguments pages slots (now (key .entry)) (now (nonce .entry)) packet (now («open» .entry)) (now (secret .entry)) (now (staging .entry))) session) ⌝ }
 {
     let newest = read_ring(ring, pages, slots);
     let check = check_save_ring(session, pages, slots, ring, newest, nonce);
@@ -321,7 +321,7 @@ impl Session {
         secret: &[u8],
         staging: &[u8],
     ) -> Check
-        ensures { λ r. ⌜ check-number r ≡ save-stop Longer (now (ring .entry)) (now (fram .entry)) (saves (save-arguments pages slots (now (key .entry)) (now (nonce .entry)) packet (now («open» .entry)) (now (secret .entry)) (now (staging .entry))) self) ⌝ }
+        ensures { λ r. ⌜ check-number r ≡ save-stop this-firmware (now (ring .entry)) (now (fram .entry)) (saves (save-arguments pages slots (now (key .entry)) (now (nonce .entry)) packet (now («open» .entry)) (now (secret .entry)) (now (staging .entry))) self) ⌝ }
     {
         let check = check_save_buffers(
             pages,
@@ -358,7 +358,7 @@ impl Session {
         secret: &[u8],
         staging: &mut [u8],
     ) -> Started
-        ensures { λ r. ⌜ view-started r (now (staging .exit)) ≡ save Longer (now (ring .entry)) (now (fram .entry)) (saves (save-arguments pages slots (now (key .entry)) (now (nonce .entry)) packet (now («open» .entry)) (now (secret .entry)) (now (staging .entry))) self) ⌝ }
+        ensures { λ r. ⌜ view-started r (now (staging .exit)) ≡ save this-firmware (now (ring .entry)) (now (fram .entry)) (saves (save-arguments pages slots (now (key .entry)) (now (nonce .entry)) packet (now («open» .entry)) (now (secret .entry)) (now (staging .entry))) self) ⌝ }
     {
         let check = check_save_buffers(
             pages,

@@ -8,7 +8,7 @@ use native.Mathlib.Omega.{arith}
 use lib.Dec.{ltb}
 use lib.ListN.{length, take}
 use borrow.Author.Tests.{eqb-true, ltb-false, not-false}
-use Rattle.octets.specs.Limits.{key-length, nonce-length, part-limit}
+use Rattle.octets.specs.Limits.{key-length, nonce-length, part-limit, fram-limit}
 use Rattle.stops.specs.Stops.{first-of, then-stop}
 use Rattle.stops.proofs.Laws.{tried, tried-first, first-append, no-lines, one-more, passes, neither}
 use Rattle.ring.specs.Ring.{Newest, ring-wrong, read-ring, is-blank, is-unreadable, nonce-used, newest-record, half-named, target-page, target-slot}
@@ -16,9 +16,9 @@ use Rattle.ring.proofs.NewestLaws.{newest-half-fits}
 use Rattle.checkpoint.specs.Checkpoint.{Older, Longer, empty-length}
 use Rattle.checkpoint.specs.Fram.{fram-wrong, half-length}
 use Rattle.checkpoint.specs.Half.{form-of, good-head, stored}
-use Rattle.checkpoint.proofs.FramLaws.{fram-sizes}
+use Rattle.checkpoint.proofs.FramLaws.{an-image}
 use Rattle.memories.specs.Stages.{of-memories}
-use Rattle.protocol.specs.Types.{Phase, PowerUp}
+use Rattle.protocol.specs.Types.{Phase, PowerUp, this-firmware}
 use Rattle.protocol.specs.Calls.{PowersUp}
 use Rattle.protocol.specs.Operations.{key-wrong, nonce-wrong, staging-wrong, state-wrong, Begin, begin, job-of, resumed, first-phase, newest-half, newest-checkpoint, power-up-stop, power-up}
 use Rattle.jobs.specs.Stages.{stopped}
@@ -28,7 +28,7 @@ use Rattle.keeper.specs.Stages.{power-up-buffers, power-up-ring, power-u
 
 pub buffers-tried : (ring fram : List ℕ) (a : PowersUp) (c d : Bool) (o₂ o₃ o₄ : Option ℕ)
     → o₂ ≡ first-of (of-memories (a .sizes .pages) (a .sizes .slots) ring fram)
-    → c ≡ key-wrong (length (a .key)) || nonce-wrong (length (a .nonce)) → d ≡ staging-wrong (a .staging) fram || state-wrong (a .state)
+    → c ≡ key-wrong (length (a .key)) || nonce-wrong (length (a .nonce)) → d ≡ staging-wrong (a .staging) fram || state-wrong this-firmware (a .state)
     → o₃ ≡ then-stop o₂ 3 c → o₄ ≡ then-stop o₃ 4 d → o₄ ≡ first-of (power-up-buffers ring fram a)
 buffers-tried ring fram a c d o₂ o₃ o₄ e x y f g = one-more (_ ∷ _ ∷ _ ∷ []) 4 _ d o₃ o₄ (one-more (_ ∷ _ ∷ []) 3 _ c o₂ o₃ e x f) y g
 
@@ -41,7 +41,7 @@ ring-tried ring slots n nonce b u x o₁ o₂ o₃ eb eu ex f g h =
 
 pub record Buffers (ring fram : List ℕ) (a : PowersUp) : Type 0 where
   pub ring-right : ring-wrong (a .sizes .pages) (a .sizes .slots) ring ≡ false
-  pub fram-right : fram-wrong fram ≡ false
+  pub fram-right : fram-wrong fram-limit fram ≡ false
   pub key : length (a .key) ≡ key-length
   pub nonce : length (a .nonce) ≡ nonce-length
   pub staging : half-length fram ≤ length (a .staging)
@@ -81,35 +81,35 @@ module _ (ring fram : List ℕ) (a : PowersUp) where
   ring-lines = power-up-ring ring (a .sizes .slots) read (a .nonce)
 
   abbrev head-line : List (ℕ × Bool)
-  head-line = (11, not (good-head (form-of half) half)) ∷ []
+  head-line = (11, not (good-head part-limit (form-of half) half)) ∷ []
 
   abbrev rest-lines : List (ℕ × Bool)
   rest-lines = half-lines (a .key) latest half
 
-  pub buffers-stop : {s : ℕ} → first-of (power-up-buffers ring fram a) ≡ some s → power-up-stop Longer ring fram a ≡ some s
+  pub buffers-stop : {s : ℕ} → first-of (power-up-buffers ring fram a) ≡ some s → power-up-stop this-firmware ring fram a ≡ some s
   unfolding power-up-stop tried
   buffers-stop e = first-append (power-up-buffers ring fram a) (ring-lines ++ (head-line ++ rest-lines)) e
 
-  on-ring : first-of (power-up-buffers ring fram a) ≡ none → power-up-stop Longer ring fram a ≡ first-of (ring-lines ++ (head-line ++ rest-lines))
+  on-ring : first-of (power-up-buffers ring fram a) ≡ none → power-up-stop this-firmware ring fram a ≡ first-of (ring-lines ++ (head-line ++ rest-lines))
   unfolding power-up-stop
   on-ring e = first-append (power-up-buffers ring fram a) (ring-lines ++ (head-line ++ rest-lines)) e ∙ tried-first (ring-lines ++ (head-line ++ rest-lines))
 
-  pub ring-stop : {s : ℕ} → first-of (power-up-buffers ring fram a) ≡ none → first-of ring-lines ≡ some s → power-up-stop Longer ring fram a ≡ some s
+  pub ring-stop : {s : ℕ} → first-of (power-up-buffers ring fram a) ≡ none → first-of ring-lines ≡ some s → power-up-stop this-firmware ring fram a ≡ some s
   unfolding tried
   ring-stop e f = on-ring e ∙ first-append ring-lines (head-line ++ rest-lines) f
 
-  on-head : first-of (power-up-buffers ring fram a) ≡ none → first-of ring-lines ≡ none → power-up-stop Longer ring fram a ≡ first-of (head-line ++ rest-lines)
+  on-head : first-of (power-up-buffers ring fram a) ≡ none → first-of ring-lines ≡ none → power-up-stop this-firmware ring fram a ≡ first-of (head-line ++ rest-lines)
   on-head e f = on-ring e ∙ first-append ring-lines (head-line ++ rest-lines) f ∙ tried-first (head-line ++ rest-lines)
 
-  pub head-stop : first-of (power-up-buffers ring fram a) ≡ none → first-of ring-lines ≡ none → good-head (form-of half) half ≡ false → power-up-stop Longer ring fram a ≡ some 11
+  pub head-stop : first-of (power-up-buffers ring fram a) ≡ none → first-of ring-lines ≡ none → good-head part-limit (form-of half) half ≡ false → power-up-stop this-firmware ring fram a ≡ some 11
   unfolding first-of
   head-stop e f g = on-head e f ∙ rw g
 
-  pub on-half : first-of (power-up-buffers ring fram a) ≡ none → first-of ring-lines ≡ none → good-head (form-of half) half ≡ true → power-up-stop Longer ring fram a ≡ first-of rest-lines
+  pub on-half : first-of (power-up-buffers ring fram a) ≡ none → first-of ring-lines ≡ none → good-head part-limit (form-of half) half ≡ true → power-up-stop this-firmware ring fram a ≡ first-of rest-lines
   unfolding first-of
   on-half e f g = on-head e f ∙ rw g
 
-  pub on-record : (rec : List ℕ) → rec ≡ newest → first-of (power-up-buffers ring fram a) ≡ none → first-of ring-lines ≡ none → power-up-stop Longer ring fram a ≡ first-of (power-up-half (a .key) rec fram)
+  pub on-record : (rec : List ℕ) → rec ≡ newest → first-of (power-up-buffers ring fram a) ≡ none → first-of ring-lines ≡ none → power-up-stop this-firmware ring fram a ≡ first-of (power-up-half (a .key) rec fram)
   unfolding newest-half
   on-record rec r e f = on-head e f ∙ ap (λ (l : List ℕ). first-of (power-up-half (a .key) l fram)) (sym r)
 
@@ -119,7 +119,7 @@ module _ (ring fram : List ℕ) (a : PowersUp) where
 
   -- ---- what it answers
 
-  pub power-up-stops : (r : Begin) {s : ℕ} → r ≡ stopped s (a .staging) (a .state) → power-up-stop Longer ring fram a ≡ some s → r ≡ power-up Longer ring fram a
+  pub power-up-stops : (r : Begin) {s : ℕ} → r ≡ stopped s (a .staging) (a .state) → power-up-stop this-firmware ring fram a ≡ some s → r ≡ power-up this-firmware ring fram a
   unfolding power-up begin
   power-up-stops r e f = rw f e
 
@@ -127,7 +127,7 @@ module _ (ring fram : List ℕ) (a : PowersUp) where
       → page ≡ target-page (a .sizes .pages) (a .sizes .slots) read → slot ≡ target-slot (a .sizes .slots) read
       → (let old = stored (form-of h) (a .key) l h in let new = resumed Longer (a .key) (a .nonce) old in
       r ≡ begin (first-of (half-lines (a .key) l h)) (a .key) new (job-of (a .key) new phase PowerUp other page slot) (a .staging) (a .state) (old .secret))
-      → power-up-stop Longer ring fram a ≡ first-of rest-lines → r ≡ power-up Longer ring fram a
+      → power-up-stop this-firmware ring fram a ≡ first-of rest-lines → r ≡ power-up this-firmware ring fram a
   unfolding power-up newest-checkpoint
   power-up-restores r l h phase other page slot el eh ep eo eg es e f =
       e ∙ (λ i. begin (first-of (half-lines (a .key) (el i) (eh i))) (a .key) (resumed Longer (a .key) (a .nonce) (stored (form-of (eh i)) (a .key) (el i) (eh i)))
@@ -135,6 +135,6 @@ module _ (ring fram : List ℕ) (a : PowersUp) where
       ∙ rw f
 
 -- the half is long enough to have a head
-pub half-long-enough : (fram h : List ℕ) → fram-wrong fram ≡ false → length h ≡ half-length fram → empty-length Older ≤ length h
+pub half-long-enough : (fram h : List ℕ) → fram-wrong fram-limit fram ≡ false → length h ≡ half-length fram → empty-length Older ≤ length h
 unfolding half-length
-half-long-enough fram h w l = let z = fram-sizes fram w in omega (arith, l)
+half-long-enough fram h w l = let z = an-image fram-limit fram w in omega (arith, l)

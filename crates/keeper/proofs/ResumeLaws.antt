@@ -24,10 +24,10 @@ use Rattle.protocol.specs.Operations.{outgrows, Begin, begin, job-of, resumed}
 use Rattle.jobs.specs.Stages.{stopped}
 use Rattle.keeper.specs.Stages.{reseal-lines, half-lines, Reseals}
 
-module _ (key latest half nonce : List ℕ) (good : good-head (form-of half) half ≡ true) where
+module _ (key latest half nonce : List ℕ) (good : good-head part-limit (form-of half) half ≡ true) where
   length-restored : length (stored (form-of half) key latest half .secret) ≡ secret-length (form-of half) half
   unfolding stored
-  length-restored = length-encrypted key latest (stored-cipher (form-of half) half) ∙ length-cipher (form-of half) key latest half good
+  length-restored = length-encrypted key latest (stored-cipher (form-of half) half) ∙ length-cipher part-limit (form-of half) key latest half good
 
   -- the secret part from the front of the state that it was put to
   from-state : (state state′ : List ℕ) (n : ℕ) → n ≡ secret-length (form-of half) half → part-limit ≤ length state → state′ ≡ put state 0 (stored (form-of half) key latest half .secret)
@@ -35,7 +35,7 @@ module _ (key latest half nonce : List ℕ) (good : good-head (form-of half) hal
   from-state state state′ n e l f =
       let S : List ℕ = stored (form-of half) key latest half .secret in
       ap (λ (w : List ℕ). part w 0 n) f
-      ∙ part-put-same state 0 S (omega (arith, length-restored, head-facts (form-of half) half good .secret-small)) n (length-restored ∙ sym e)
+      ∙ part-put-same state 0 S (omega (arith, length-restored, head-facts part-limit (form-of half) half good .secret-small)) n (length-restored ∙ sym e)
 
   pub reseals : (t staging staging′ state state′ open-part secret previous : List ℕ) (d k m n r : ℕ) → ((i : ℕ) → getD half i 0 < 256) → good-tag (form-of half) key latest half ≡ true
       → d ≡ head-length (form-of half) → k ≡ stored-packet (form-of half) half → m ≡ open-length (form-of half) half → n ≡ secret-length (form-of half) half → r ≡ stored-restarts (form-of half) half → part-limit ≤ length state
@@ -47,7 +47,7 @@ module _ (key latest half nonce : List ℕ) (good : good-head (form-of half) hal
       let open-is : open-part ≡ stored-open (form-of half) half = o in
       let secret-is : secret ≡ stored (form-of half) key latest half .secret = s ∙ from-state state state′ n y l f in
       let previous-is : previous ≡ own-tag key (stored (form-of half) key latest half) =
-      p ∙ (λ i. part half (v i + x i + y i) tag-length) ∙ sym (tag-again (form-of half) key latest half good b tagged) in
+      p ∙ (λ i. part half (v i + x i + y i) tag-length) ∙ sym (tag-again part-limit (form-of half) key latest half good b tagged) in
       let again : checkpoint-of k open-part secret (r + 1) previous nonce ≡ resumed Longer key nonce (stored (form-of half) key latest half) =
       λ i. record { form = Longer; packet = w i; open-part = open-is i; secret = secret-is i; restarts = z i + 1; previous = previous-is i; nonce = nonce } in
       record {
@@ -83,9 +83,9 @@ not-stopped none n true e = stopped-not-none e
 not-stopped none n false e = (refl, refl)
 
 -- where stop 13 does not apply a restart more is in range
-pub restarts-below : (half : List ℕ) (r : ℕ) → good-head (form-of half) half ≡ true → r ≡ stored-restarts (form-of half) half → eqb r restart-limit ≡ false → r < restart-limit
+pub restarts-below : (half : List ℕ) (r : ℕ) → good-head part-limit (form-of half) half ≡ true → r ≡ stored-restarts (form-of half) half → eqb r restart-limit ≡ false → r < restart-limit
 restarts-below half r good e f =
-    let small = head-facts (form-of half) half good .restarts-small in
+    let small = head-facts part-limit (form-of half) half good .restarts-small in
     let other : r ≡ restart-limit → ⊥ = eqb-false r restart-limit f in
     omega (arith, small, e, other)
 
@@ -106,7 +106,7 @@ pub restore-stops : (r : Begin) (o : Option ℕ) (s : ℕ) (key : List ℕ) (c :
 unfolding begin
 restore-stops r o s key c j staging staging′ state state′ secret f e x y = e ∙ (λ i. stopped s (x i) (y i)) ∙ rw f
 
-module _ (key latest half nonce : List ℕ) (good : good-head (form-of half) half ≡ true) where
+module _ (key latest half nonce : List ℕ) (good : good-head part-limit (form-of half) half ≡ true) where
   abbrev new : Checkpoint
   new = resumed Longer key nonce (stored (form-of half) key latest half)
 
@@ -114,7 +114,7 @@ module _ (key latest half nonce : List ℕ) (good : good-head (form-of half) hal
   unfolding resumed stored
   length-new =
       length-sealed key new (length-own-tag key (stored (form-of half) key latest half))
-      ∙ (λ i. sealed-length Longer (length-open (form-of half) key latest half good i) (length-secret (form-of half) key latest half good i))
+      ∙ (λ i. sealed-length Longer (length-open part-limit (form-of half) key latest half good i) (length-secret part-limit (form-of half) key latest half good i))
 
   pub restore-begins : (o : Option ℕ) (k m n r half′ page slot : ℕ) (phase : Phase) (t staging staging′ state state′ nonce′ : List ℕ) → o ≡ none
       → k ≡ stored-packet (form-of half) half → m ≡ open-length (form-of half) half → n ≡ secret-length (form-of half) half → r ≡ stored-restarts (form-of half) half → nonce′ ≡ nonce → Reseals key t latest half nonce staging staging′ state state′
@@ -128,7 +128,7 @@ module _ (key latest half nonce : List ℕ) (good : good-head (form-of half) hal
   unfolding begin job-of resumed stored
   restore-begins o k m n r half′ page slot phase t staging staging′ state state′ nonce′ f u x y w z made =
       let long : sealed-length Longer m n ≡ length (sealed key new) = (λ i. sealed-length Longer (x i) (y i)) ∙ sym length-new in
-      let secret-long : n ≡ length (stored (form-of half) key latest half .secret) = y ∙ sym (length-secret (form-of half) key latest half good) in
+      let secret-long : n ≡ length (stored (form-of half) key latest half .secret) = y ∙ sym (length-secret part-limit (form-of half) key latest half good) in
       (λ i. record {
         answer = Begun;
         job = record { phase = phase; origin = PowerUp; half = half′; length = long i; page = page; slot = slot; nonce = z i; tag = made .tag i; restarts = w i + 1; packet = u i };

@@ -5,6 +5,7 @@ use mathlib.Core.Bool.{Bool, not, _||_}
 use mathlib.Core.List.{List, [], _∷_, _++_}
 use lib.Dec.{eqb}
 use lib.ListN.{length}
+use Rattle.protocol.specs.Types.{this-firmware}
 use Rattle.octets.specs.Limits.{restart-limit}
 use Rattle.octets.specs.Octets.{put}
 use Rattle.ring.specs.Ring.{Newest, is-blank, is-unreadable, nonce-used, half-named}
@@ -24,7 +25,7 @@ abbrev pub power-up-buffers : (ring fram : List ℕ) → PowersUp → List (ℕ 
 power-up-buffers ring fram a =
     of-memories (a .sizes .pages) (a .sizes .slots) ring fram ++ (
     (3, key-wrong (length (a .key)) || nonce-wrong (length (a .nonce))) ∷
-    (4, staging-wrong (a .staging) fram || state-wrong (a .state)) ∷ [])
+    (4, staging-wrong (a .staging) fram || state-wrong this-firmware (a .state)) ∷ [])
 
 -- those about the ring, which reads as n
 abbrev pub power-up-ring : (ring : List ℕ) → ℕ → Newest → List ℕ → List (ℕ × Bool)

@@ -41,7 +41,7 @@ ghost use mathlib.Core.Option.{none};
 ghost use mathlib.Core.List.{List};
 ghost use Prim.Native.Nat.{ℕ, _≤_, _<_};
 ghost use lib.ListN.{length};
-ghost use Rattle.octets.specs.Limits.{key-length, nonce-length, part-limit, restart-limit, slot-length};
+ghost use Rattle.octets.specs.Limits.{key-length, nonce-length, part-limit, restart-limit, slot-length, fram-limit};
 ghost use Rattle.stops.specs.Stops.{first-of};
 ghost use Rattle.stops.specs.View.{check-number, stop-number};
 ghost use Rattle.aes.specs.Cipher.{cipher, aes};
@@ -51,7 +51,7 @@ ghost use Rattle.checkpoint.specs.Checkpoint.{Longer};
 ghost use Rattle.checkpoint.specs.Fram.{fram-wrong};
 ghost use Rattle.checkpoint.specs.Half.{form-of, good-head, good-tag, stored};
 ghost use Rattle.checkpoint.specs.Prepared.{Prepared};
-ghost use Rattle.protocol.specs.Types.{PowerUp};
+ghost use Rattle.protocol.specs.Types.{PowerUp, this-firmware};
 ghost use Rattle.protocol.specs.Operations.{outgrows, begin, job-of, resumed, first-phase, power-up-stop, power-up};
 ghost use Rattle.jobs.specs.View.{view-phase};
 ghost use Rattle.keeper.specs.View.{view-powered-up, powers-up};
@@ -87,7 +87,7 @@ fn reopen(
     staging: &mut [u8],
     state: &mut [u8],
 ) -> [u8; 16]
-    requires { ⌜ Prepared (now table) (now keys) (now steps) rounds × (length (now latest) ≡ nonce-length) × (length (now nonce) ≡ nonce-length) × (good-head (form-of (now half)) (now half) ≡ true) × HeadOf head (now half) × (head .restarts < restart-limit) × (outgrows Longer (now half) ≡ false) × (length (now half) ≤ length (now staging)) × (part-limit ≤ length (now state)) ⌝ }
+    requires { ⌜ Prepared (now table) (now keys) (now steps) rounds × (length (now latest) ≡ nonce-length) × (length (now nonce) ≡ nonce-length) × (good-head part-limit (form-of (now half)) (now half) ≡ true) × HeadOf head (now half) × (head .restarts < restart-limit) × (outgrows Longer (now half) ≡ false) × (length (now half) ≤ length (now staging)) × (part-limit ≤ length (now state)) ⌝ }
     ensures { λ r. ⌜ ((key : List ℕ) → cipher rounds (now (keys .entry)) ≡ aes key → good-tag (form-of (now (half .entry))) key (now (latest .entry)) (now (half .entry)) ≡ true → Reseals key r (now (latest .entry)) (now (half .entry)) (now (nonce .entry)) (now (staging .entry)) (now (staging .exit)) (now (state .entry)) (now (state .exit))) ⌝ }
 {
     open_secret(
@@ -130,7 +130,7 @@ fn reseal_prepared(
     staging: &mut [u8],
     state: &mut [u8],
 ) -> Resealed
-    requires { ⌜ Prepared (now table) (now keys) (now steps) rounds × (length (now latest) ≡ nonce-length) × (length (now nonce) ≡ nonce-length) × (good-head (form-of (now half)) (now half) ≡ true) × HeadOf head (now half) × (length (now half) ≤ length (now staging)) × (part-limit ≤ length (now state)) ⌝ }
+    requires { ⌜ Prepared (now table) (now keys) (now steps) rounds × (length (now latest) ≡ nonce-length) × (length (now nonce) ≡ nonce-length) × (good-head part-limit (form-of (now half)) (now half) ≡ true) × HeadOf head (now half) × (length (now half) ≤ length (now staging)) × (part-limit ≤ length (now state)) ⌝ }
     ensures { λ r. ⌜ ((key : List ℕ) → cipher rounds (now (keys .entry)) ≡ aes key → Outcome key r (now (latest .entry)) (now (half .entry)) (now (nonce .entry)) (now (staging .entry)) (now (staging .exit)) (now (state .entry)) (now (state .exit))) ⌝ }
 {
     let good = good_tag(
@@ -187,7 +187,7 @@ fn reseal(
     staging: &mut [u8],
     state: &mut [u8],
 ) -> Resealed
-    requires { ⌜ (length (now key) ≡ key-length) × (length (now latest) ≡ nonce-length) × (length (now nonce) ≡ nonce-length) × (good-head (form-of (now half)) (now half) ≡ true) × HeadOf head (now half) × (length (now half) ≤ length (now staging)) × (part-limit ≤ length (now state)) ⌝ }
+    requires { ⌜ (length (now key) ≡ key-length) × (length (now latest) ≡ nonce-length) × (length (now nonce) ≡ nonce-length) × (good-head part-limit (form-of (now half)) (now half) ≡ true) × HeadOf head (now half) × (length (now half) ≤ length (now staging)) × (part-limit ≤ length (now state)) ⌝ }
     ensures { λ r. ⌜ Outcome (now (key .entry)) r (now (latest .entry)) (now (half .entry)) (now (nonce .entry)) (now (staging .entry)) (now (staging .exit)) (now (state .entry)) (now (state .exit)) ⌝ }
 {
     let rounds = key.len() / 4 + 6;
@@ -237,7 +237,7 @@ fn restore(
     page: usize,
     slot: usize,
 ) -> PoweredUp
-    requires { ⌜ (length (now key) ≡ key-length) × (length (now latest) ≡ nonce-length) × (length (now nonce) ≡ nonce-length) × (good-head (form-of (now half)) (now half) ≡ true) × HeadOf head (now half) × (length (now half) ≤ length (now staging)) × (part-limit ≤ length (now state)) ⌝ }
+    requires { ⌜ (length (now key) ≡ key-length) × (length (now latest) ≡ nonce-length) × (length (now nonce) ≡ nonce-length) × (good-head part-limit (form-of (now half)) (now half) ≡ true) × HeadOf head (now half) × (length (now half) ≤ length (now staging)) × (part-limit ≤ length (now state)) ⌝ }
     ensures { λ r. ⌜ view-powered-up r (now (staging .exit)) (now (state .exit)) ≡ begin (first-of (half-lines (now (key .entry)) (now (latest .entry)) (now (half .entry)))) (now (key .entry)) (resumed Longer (now (key .entry)) (now (nonce .entry)) (stored (form-of (now (half .entry))) (now (key .entry)) (now (latest .entry)) (now (half .entry)))) (job-of (now (key .entry)) (resumed Longer (now (key .entry)) (now (nonce .entry)) (stored (form-of (now (half .entry))) (now (key .entry)) (now (latest .entry)) (now (half .entry)))) (view-phase phase) PowerUp other page slot) (now (staging .entry)) (now (state .entry)) (stored (form-of (now (half .entry))) (now (key .entry)) (now (latest .entry)) (now (half .entry)) .secret) ⌝ }
 {
     let resealed = reseal(key, latest, half, head, nonce, staging, state);
@@ -320,7 +320,7 @@ fn check_power_up_ring(
 
 // Stops 11 to 13 and 4 of power-up, on the half that a record names.
 fn check_power_up_half(record: &[u8], fram: &[u8], key: &[u8]) -> Check
-    requires { ⌜ (fram-wrong (now fram) ≡ false) × (length (now key) ≡ key-length) × (length (now «record») ≡ slot-length) × (half-named (now «record») ≤ 1) ⌝ }
+    requires { ⌜ (fram-wrong fram-limit (now fram) ≡ false) × (length (now key) ≡ key-length) × (length (now «record») ≡ slot-length) × (half-named (now «record») ≤ 1) ⌝ }
     ensures { λ r. ⌜ check-number r ≡ first-of (power-up-half (now (key .entry)) (now («record» .entry)) (now (fram .entry))) ⌝ }
 {
     let half = half_at(fram, half_named(record));
@@ -342,7 +342,7 @@ pub fn power_up_check(
     staging: &[u8],
     state: &[u8],
 ) -> Check
-    ensures { λ r. ⌜ check-number r ≡ power-up-stop Longer (now (ring .entry)) (now (fram .entry)) (powers-up pages slots (now (key .entry)) (now (nonce .entry)) (now (staging .entry)) (now (state .entry))) ⌝ }
+    ensures { λ r. ⌜ check-number r ≡ power-up-stop this-firmware (now (ring .entry)) (now (fram .entry)) (powers-up pages slots (now (key .entry)) (now (nonce .entry)) (now (staging .entry)) (now (state .entry))) ⌝ }
 {
     let check = check_power_up_buffers(pages, slots, ring, fram, key, nonce, staging, state);
     match check {
@@ -371,7 +371,7 @@ fn resume(
     found: Newest,
 ) -> PoweredUp
     requires { ⌜ (first-of (power-up-buffers (now ring) (now fram) (powers-up pages slots (now key) (now nonce) (now staging) (now state))) ≡ none) × (newest found ≡ read-ring (now ring) pages slots) × Within pages slots (newest found) × (first-of (power-up-ring (now ring) slots (newest found) (now nonce)) ≡ none) ⌝ }
-    ensures { λ r. ⌜ view-powered-up r (now (staging .exit)) (now (state .exit)) ≡ power-up Longer (now (ring .entry)) (now (fram .entry)) (powers-up pages slots (now (key .entry)) (now (nonce .entry)) (now (staging .entry)) (now (state .entry))) ⌝ }
+    ensures { λ r. ⌜ view-powered-up r (now (staging .exit)) (now (state .exit)) ≡ power-up this-firmware (now (ring .entry)) (now (fram .entry)) (powers-up pages slots (now (key .entry)) (now (nonce .entry)) (now (staging .entry)) (now (state .entry))) ⌝ }
 {
     let record = found.record(ring, pages, slots);
     let number = half_named(record);
@@ -411,7 +411,7 @@ fn power_up_on(
     state: &mut [u8],
 ) -> PoweredUp
     requires { ⌜ first-of (power-up-buffers (now ring) (now fram) (powers-up pages slots (now key) (now nonce) (now staging) (now state))) ≡ none ⌝ }
-    ensures { λ r. ⌜ view-powered-up r (now (staging .exit)) (now (state .exit)) ≡ power-up Longer (now (ring .entry)) (now (fram .entry)) (powers-up pages slots (now (key .entry)) (now (nonce .entry)) (now (staging .entry)) (now (state .entry))) ⌝ }
+    ensures { λ r. ⌜ view-powered-up r (now (staging .exit)) (now (state .exit)) ≡ power-up this-firmware (now (ring .entry)) (now (fram .entry)) (powers-up pages slots (now (key .entry)) (now (nonce .entry)) (now (staging .entry)) (now (state .entry))) ⌝ }
 {
     let found = read_ring(ring, pages, slots);
     let check = check_power_up_ring(pages, slots, ring, found, nonce);
@@ -433,7 +433,7 @@ pub fn power_up(
     staging: &mut [u8],
     state: &mut [u8],
 ) -> PoweredUp
-    ensures { λ r. ⌜ view-powered-up r (now (staging .exit)) (now (state .exit)) ≡ power-up Longer (now (ring .entry)) (now (fram .entry)) (powers-up pages slots (now (key .entry)) (now (nonce .entry)) (now (staging .entry)) (now (state .entry))) ⌝ }
+    ensures { λ r. ⌜ view-powered-up r (now (staging .exit)) (now (state .exit)) ≡ power-up this-firmware (now (ring .entry)) (now (fram .entry)) (powers-up pages slots (now (key .entry)) (now (nonce .entry)) (now (staging .entry)) (now (state .entry))) ⌝ }
 {
     let check = check_power_up_buffers(pages, slots, ring, fram, key, nonce, staging, state);
     match check {

@@ -6,13 +6,14 @@ use mathlib.Core.Option.{Option, none, some}
 use mathlib.Core.List.{List, [], _∷_}
 use borrow.Author.Tests.{eq-eqb, ne-eqb}
 use lib.ListN.{length}
+use Rattle.octets.specs.Limits.{fram-limit}
 use Rattle.stops.specs.Stops.{first-of, then-stop}
 use Rattle.stops.proofs.Laws.{passes}
 use Rattle.ring.specs.Ring.{ring-wrong, page-before}
 use Rattle.checkpoint.specs.Fram.{fram-wrong}
 use Rattle.memories.specs.Stages.{of-memories}
 use Rattle.checkpoint.specs.Checkpoint.{Longer}
-use Rattle.protocol.specs.Types.{Phase, EraseFirst, Words, Record, EraseAfter, Done, Origin, Save, PowerUp, Job, Progress, GoingOn, Saved, Restored, Refused}
+use Rattle.protocol.specs.Types.{Phase, EraseFirst, Words, Record, EraseAfter, Done, Origin, Save, PowerUp, Job, Progress, GoingOn, Saved, Restored, Refused, this-firmware}
 use Rattle.protocol.specs.Calls.{Sizes, Advances}
 use Rattle.protocol.specs.Operations.{Moved, staging-wrong, job-wrong, advance-stop, going-on, finished, ended, recorded, erase-follows, after-record, store, advance-by, advance}
 use Rattle.protocol.proofs.Facts.{no-fact}
@@ -93,12 +94,12 @@ module _ (ring fram : List ℕ) (z : Sizes) (staging job session : List ℕ) whe
       → r ≡ answer (then-stop q 4 true) → advancing-left r ring fram job session ≡ advance-call ring fram z staging job session
   unfolding advance-call advance-call-stop
   no-buffer n q r e f =
-      let s = bad-stop (ring-wrong (z .pages) (z .slots) ring) (fram-wrong fram) (staging-wrong staging fram) (job-wrong Longer (job-in job) z ring fram) in
+      let s = bad-stop (ring-wrong (z .pages) (z .slots) ring) (fram-wrong fram-limit fram) (staging-wrong staging fram) (job-wrong Longer (job-in job) z ring fram) in
       let h : r ≡ s .0 = f ∙ ap answer (ap (λ (p : Option ℕ). then-stop p 4 true) e ∙ s .2) in
       rw (ne-eqb (length session) session-length n, s .1) (ap (λ (k : ℕ). advancing-left k ring fram job session) h)
 
-  module _ (right : length session ≡ session-length) (M : Moved) (m : M ≡ advance Longer ring fram (advances-in z job staging)) where
-    stops-alike : advance-call-stop ring fram (advances-in z job staging) session ≡ advance-stop Longer ring fram (advances-in z job staging)
+  module _ (right : length session ≡ session-length) (M : Moved) (m : M ≡ advance this-firmware ring fram (advances-in z job staging)) where
+    stops-alike : advance-call-stop ring fram (advances-in z job staging) session ≡ advance-stop this-firmware ring fram (advances-in z job staging)
     unfolding advance-call-stop advance-stop
     stops-alike = rw (eq-eqb (length session) session-length right, or-false _ false refl)
 
@@ -106,7 +107,7 @@ module _ (ring fram : List ℕ) (z : Sizes) (staging job session : List ℕ) whe
     pub held : goes (M .progress) ≡ true → length job ≡ job-length
     unfolding advance advance-stop
     held e =
-        let passed = goes-by (advance-stop Longer ring fram (advances-in z job staging)) ring fram (advances-in z job staging) (ap (λ (x : Moved). goes (x .progress)) (sym m) ∙ e) in
+        let passed = goes-by (advance-stop this-firmware ring fram (advances-in z job staging)) ring fram (advances-in z job staging) (ap (λ (x : Moved). goes (x .progress)) (sym m) ∙ e) in
         job-long job (unread-job job z ring fram (passes _ passed .1 .1 .1 .0))
 
     pub left : (r : ℕ) (job′ session′ : List ℕ) → r ≡ progress-number (M .progress) → job′ ≡ job-moved (M .progress) (M .job) job
@@ -114,5 +115,5 @@ module _ (ring fram : List ℕ) (z : Sizes) (staging job session : List ℕ) whe
     unfolding left-of advance advance-call
     left r job′ session′ h j s =
         (λ i. advancing-left (h i) (M .ring) (M .fram) (j i) (s i)) ∙ ap (left-of job session) m
-        ∙ left-by (advance-stop Longer ring fram (advances-in z job staging)) ring fram (advances-in z job staging) job session
-        ∙ ap (λ (o : Option ℕ). advancing-by o (advance Longer ring fram (advances-in z job staging)) ring fram job session) (sym stops-alike)
+        ∙ left-by (advance-stop this-firmware ring fram (advances-in z job staging)) ring fram (advances-in z job staging) job session
+        ∙ ap (λ (o : Option ℕ). advancing-by o (advance this-firmware ring fram (advances-in z job staging)) ring fram job session) (sym stops-alike)

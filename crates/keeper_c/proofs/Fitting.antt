@@ -9,7 +9,7 @@ use native.Mathlib.Omega.{arith}
 use borrow.Author.Tests.{eqb-true, not-false}
 use lib.Dec.{eqb, ltb, lit<}
 use lib.ListN.{length, length-append, take, getD}
-use Rattle.octets.specs.Limits.{nonce-length, tag-length, part-limit}
+use Rattle.octets.specs.Limits.{nonce-length, tag-length, part-limit, fram-limit}
 use Rattle.octets.specs.Word.{word-at}
 use Rattle.octets.proofs.Numbers.{length-word, number-lt}
 use Rattle.stops.proofs.Laws.{passes, neither}
@@ -22,8 +22,8 @@ use Rattle.checkpoint.specs.Half.{form-of, stored-packet, good-head, stored}
 use Rattle.checkpoint.specs.Layout.{PacketInRange}
 use Rattle.checkpoint.proofs.FramLaws.{half-sizes}
 use Rattle.checkpoint.proofs.SealedLaws.{head-small, length-own-tag, length-sealed}
-use Rattle.checkpoint.proofs.StoredLaws.{packet-small, stored-in-range}
-use Rattle.protocol.specs.Types.{Phase, EraseFirst, Words, Record, EraseAfter, Done, Origin, Job, Session}
+use Rattle.checkpoint.proofs.StoredLaws.{packet-small, stored-in-range, stored-small}
+use Rattle.protocol.specs.Types.{Phase, EraseFirst, Words, Record, EraseAfter, Done, Origin, Job, Session, this-firmware}
 use Rattle.protocol.specs.Calls.{Sizes, SaveArguments, FirstSave, Saves, PowersUp, Advances}
 use Rattle.protocol.specs.Operations.{key-wrong, nonce-wrong, stale, session-wrong, newest-in, written-number, larger, save-restarts, no-job, begin, job-of, first-checkpoint, save-checkpoint, resumed, first-phase, first-save-stop, first-save, save-stop, save, newest-half, newest-checkpoint, power-up-stop, power-up, no-session, job-record, session-of, in-phase, Moved, going-on, ended, recorded, erase-follows, after-record, store, advance-stop, advance-by, advance}
 use Rattle.protocol.proofs.FirstSaves.{numbered}
@@ -110,15 +110,15 @@ module _ (pages slots : ℕ) (ring : List ℕ) (w : ring-wrong pages slots ring 
       omega arith
 
 module _ (ring fram : List ℕ) where
-  first-save-fits : (a : FirstSave) → first-save-stop Longer ring fram a ≡ none → FitsJob (first-save Longer ring fram a .job)
+  first-save-fits : (a : FirstSave) → first-save-stop this-firmware ring fram a ≡ none → FitsJob (first-save this-firmware ring fram a .job)
   unfolding first-save first-checkpoint first-save-stop
   first-save-fits a e =
       let l = first-lengths ring fram a e in
-      begun-fits (first-save-stop Longer ring fram a) _ _ _ _ _ _ e
+      begun-fits (first-save-stop this-firmware ring fram a) _ _ _ _ _ _ e
       (made-fits _ _ _ _ 0 0 0 (l .1) (l .0 .open-part) (l .0 .secret) (l .0 .nonce) (lit< tt) (lit< tt) (lit< tt) (lit< tt) (lit< tt)
       (small Longer (written-number Longer (a .arguments .packet)) (numbered Longer (a .arguments .packet) (passes _ e .1 .1 .1 .1 .0))))
 
-  save-fits : (a : Saves) → length (a .session .tag) ≡ tag-length → save-stop Longer ring fram a ≡ none → FitsJob (save Longer ring fram a .job)
+  save-fits : (a : Saves) → length (a .session .tag) ≡ tag-length → save-stop this-firmware ring fram a ≡ none → FitsJob (save this-firmware ring fram a .job)
   unfolding save save-checkpoint save-stop
   save-fits a t e =
       let z = a .arguments .sizes in
@@ -126,13 +126,13 @@ module _ (ring fram : List ℕ) where
       let n = neither (key-wrong (length (a .arguments .key))) (nonce-wrong (length (a .arguments .nonce))) (p .1 .1 .0) in
       let y = neither (stale ring (z .slots) (newest-in ring z) (a .session)) (session-wrong Longer (a .session)) (p .1 .1 .1 .1 .1 .1 .1 .0) in
       let l = lengths fram (a .arguments) (n .0) (n .1) (p .1 .1 .1 .0) (p .1 .1 .1 .1 .0) in
-      begun-fits (save-stop Longer ring fram a) _ _ _ _ _ _ e
+      begun-fits (save-stop this-firmware ring fram a) _ _ _ _ _ _ e
       (made-fits _ _ _ _ _ _ _ t (l .open-part) (l .secret) (l .nonce) (lit< tt) (omega arith)
       (page-fits (z .pages) (z .slots) ring (p .0)) (slot-fits (z .pages) (z .slots) ring (p .0))
       (few Longer (a .arguments .packet) (a .session) (y .1))
       (small Longer (written-number Longer (larger (a .session .packet) (a .arguments .packet))) (save-numbered Longer (a .arguments .packet) (a .session) (p .1 .1 .1 .1 .0) (y .1))))
 
-  power-up-fits : (a : PowersUp) → power-up-stop Longer ring fram a ≡ none → FitsJob (power-up Longer ring fram a .job)
+  power-up-fits : (a : PowersUp) → power-up-stop this-firmware ring fram a ≡ none → FitsJob (power-up this-firmware ring fram a .job)
   unfolding power-up newest-checkpoint resumed power-up-stop stored
   power-up-fits a e =
       let z = a .sizes in
@@ -140,10 +140,11 @@ module _ (ring fram : List ℕ) where
       let half = newest-half ring fram (z .slots) n in
       let p = passes _ e in
       let k = neither (key-wrong (length (a .key))) (nonce-wrong (length (a .nonce))) (p .1 .1 .0) in
-      let good = not-false (good-head (form-of half) half) (p .1 .1 .1 .1 .1 .1 .1 .0) in
-      let old = stored-in-range (form-of half) (a .key) (take nonce-length (newest-record ring (z .slots) n)) half good in
-      begun-fits (power-up-stop Longer ring fram a) _ _ _ _ _ _ e
-      (made-fits _ _ _ _ _ _ _ (length-own-tag (a .key) _) (old .open-small) (old .secret-small) (eqb-true (length (a .nonce)) nonce-length (not-false _ (k .1)))
+      let good = not-false (good-head part-limit (form-of half) half) (p .1 .1 .1 .1 .1 .1 .1 .0) in
+      let old = stored-in-range part-limit (form-of half) (a .key) (take nonce-length (newest-record ring (z .slots) n)) half good in
+      let parts = stored-small part-limit (form-of half) (a .key) (take nonce-length (newest-record ring (z .slots) n)) half good in
+      begun-fits (power-up-stop this-firmware ring fram a) _ _ _ _ _ _ e
+      (made-fits _ _ _ _ _ _ _ (length-own-tag (a .key) _) (parts .0) (parts .1) (eqb-true (length (a .nonce)) nonce-length (not-false _ (k .1)))
       (phase-fits (z .pages) (z .slots) ring (p .0) n refl) (omega arith) (page-fits (z .pages) (z .slots) ring (p .0)) (slot-fits (z .pages) (z .slots) ring (p .0))
       (omega (arith, old .restarts-small)) (small (form-of half) (stored-packet (form-of half) half) (old .packet-small)))
 
@@ -157,7 +158,7 @@ unfolding no-session
 no-session-fits = record { page = lit< tt; slot = lit< tt; latest = refl; tag = refl; restarts = lit< tt; packet = lit< tt }
 
 module _ (ring fram : List ℕ) (a : Advances) (nonce : length (a .job .nonce) ≡ nonce-length) (tag : length (a .job .tag) ≡ tag-length)
-    (restarts : a .job .restarts < 2 ^ 32) (packet : a .job .packet < 2 ^ 32) (e : advance-stop Longer ring fram a ≡ none) where
+    (restarts : a .job .restarts < 2 ^ 32) (packet : a .job .packet < 2 ^ 32) (e : advance-stop this-firmware ring fram a ≡ none) where
   abbrev r : Ready (a .job) (a .sizes) ring fram (a .staging)
   r = ready ring fram a e
 
@@ -169,7 +170,7 @@ module _ (ring fram : List ℕ) (a : Advances) (nonce : length (a .job .nonce) �
   moved-fits p w =
       let n = r .numbers in
       let z = ringed .numbers in
-      let h = half-sizes fram (r .fram-right) in
+      let h = half-sizes fram-limit fram (r .fram-right) in
       record { place = w; half = omega arith; long = omega arith; page = omega arith; slot = omega arith; nonce = nonce; tag = tag; restarts = restarts; packet = packet }
 
   new-session-fits : FitsSession (session-of (a .job))
@@ -199,7 +200,7 @@ module _ (ring fram : List ℕ) (a : Advances) (nonce : length (a .job .nonce) �
   store-fits (EraseFirst p) t = goes-on (Words 0) _ _ (lit< tt)
   store-fits (Words w) t =
       let n = r .numbers in
-      let h = half-sizes fram (r .fram-right) in
+      let h = half-sizes fram-limit fram (r .fram-right) in
       let l = word-ready r w t in
       goes-on _ _ _ (either (λ (p : Phase). phase-place p < 2 ^ 32) (eqb (4 * (w + 1)) (a .job .length)) Record (Words (w + 1)) (lit< tt) (λ _. omega arith))
   store-fits Record t =
@@ -211,7 +212,7 @@ module _ (ring fram : List ℕ) (a : Advances) (nonce : length (a .job .nonce) �
   store-fits (EraseAfter p) t = ends _ fram
   store-fits Done t = ends ring fram
 
-  advance-fits : Fits (advance Longer ring fram a)
+  advance-fits : Fits (advance this-firmware ring fram a)
   unfolding advance advance-by
   advance-fits = rw e (store-fits (a .job .phase) refl)
 
@@ -219,27 +220,27 @@ module _ (ring fram : List ℕ) (a : Advances) (nonce : length (a .job .nonce) �
 
 module _ (ring fram : List ℕ) where
   -- the bytes of the job that a first save hands out are read as that job
-  pub first-save-back : (a : FirstSave) → first-save-stop Longer ring fram a ≡ none → job-in (job-bytes (first-save Longer ring fram a .job)) ≡ first-save Longer ring fram a .job
+  pub first-save-back : (a : FirstSave) → first-save-stop this-firmware ring fram a ≡ none → job-in (job-bytes (first-save this-firmware ring fram a .job)) ≡ first-save this-firmware ring fram a .job
   first-save-back a e = job-back _ (first-save-fits ring fram a e)
 
   -- those of a save's job, with a session read from any buffer
-  pub save-back : (a : SaveArguments) (session : List ℕ) → save-stop Longer ring fram (saves-in a session) ≡ none
-      → job-in (job-bytes (save Longer ring fram (saves-in a session) .job)) ≡ save Longer ring fram (saves-in a session) .job
+  pub save-back : (a : SaveArguments) (session : List ℕ) → save-stop this-firmware ring fram (saves-in a session) ≡ none
+      → job-in (job-bytes (save this-firmware ring fram (saves-in a session) .job)) ≡ save this-firmware ring fram (saves-in a session) .job
   save-back a session e = job-back _ (save-fits ring fram (saves-in a session) (session-tag session) e)
 
   -- those of a power-up's job
-  pub power-up-back : (a : PowersUp) → power-up-stop Longer ring fram a ≡ none → job-in (job-bytes (power-up Longer ring fram a .job)) ≡ power-up Longer ring fram a .job
+  pub power-up-back : (a : PowersUp) → power-up-stop this-firmware ring fram a ≡ none → job-in (job-bytes (power-up this-firmware ring fram a .job)) ≡ power-up this-firmware ring fram a .job
   power-up-back a e = job-back _ (power-up-fits ring fram a e)
 
   -- a job buffer holds bytes
-  module _ (z : Sizes) (job staging : List ℕ) (b : (i : ℕ) → getD job i 0 < 256) (e : advance-stop Longer ring fram (advances-in z job staging) ≡ none) where
-    both-fit : Fits (advance Longer ring fram (advances-in z job staging))
+  module _ (z : Sizes) (job staging : List ℕ) (b : (i : ℕ) → getD job i 0 < 256) (e : advance-stop this-firmware ring fram (advances-in z job staging) ≡ none) where
+    both-fit : Fits (advance this-firmware ring fram (advances-in z job staging))
     both-fit = let l = job-lengths job in let k = job-numbers job b in advance-fits ring fram (advances-in z job staging) (l .0) (l .1) (k .0) (k .1) e
 
     -- those of the job that an advance has moved on, read from any buffer
-    pub advance-job-back : job-in (job-bytes (advance Longer ring fram (advances-in z job staging) .job)) ≡ advance Longer ring fram (advances-in z job staging) .job
+    pub advance-job-back : job-in (job-bytes (advance this-firmware ring fram (advances-in z job staging) .job)) ≡ advance this-firmware ring fram (advances-in z job staging) .job
     advance-job-back = job-back _ (both-fit .0)
 
     -- the bytes of the session that it answers are read as that session; at 'going on' they are not written
-    pub advance-session-back : session-in (session-bytes (advance Longer ring fram (advances-in z job staging) .session)) ≡ advance Longer ring fram (advances-in z job staging) .session
+    pub advance-session-back : session-in (session-bytes (advance this-firmware ring fram (advances-in z job staging) .session)) ≡ advance this-firmware ring fram (advances-in z job staging) .session
     advance-session-back = session-back _ (both-fit .1)

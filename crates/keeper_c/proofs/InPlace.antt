@@ -5,11 +5,12 @@ use mathlib.Core.Bool.{Bool, true, false, not, _||_}
 use mathlib.Core.List.{List, [], _∷_}
 use lib.Dec.{eqb}
 use lib.ListN.{length}
+use Rattle.octets.specs.Limits.{fram-limit}
 use Rattle.stops.specs.Stops.{first-of}
 use Rattle.ring.specs.Ring.{ring-wrong, is-blank, is-unreadable}
 use Rattle.checkpoint.specs.Fram.{fram-wrong}
 use Rattle.checkpoint.specs.Checkpoint.{Longer}
-use Rattle.protocol.specs.Types.{Job, Session}
+use Rattle.protocol.specs.Types.{Job, Session, this-firmware}
 use Rattle.protocol.specs.Calls.{Sizes, SaveArguments}
 use Rattle.protocol.specs.Operations.{key-wrong, nonce-wrong, parts-wrong, packet-wrong, staging-wrong, stale, newest-in, save-stop, job-wrong}
 use Rattle.protocol.proofs.FreeResults.{no-session-stale, no-job-wrong}
@@ -36,11 +37,11 @@ rows false false false false false false false g g′ more w = rw (w refl refl r
 -- a save with a session buffer that is not 48 bytes stops with 1 to 4, 18, 6 or 7 as any save, and else with 8
 pub session-in-place : (ring fram : List ℕ) (a : SaveArguments) (b : List ℕ) → (length b ≡ session-length → ⊥)
     → let n = newest-in ring (a .sizes) in
-    save-stop Longer ring fram (saves-in a b) ≡ first-of (
+    save-stop this-firmware ring fram (saves-in a b) ≡ first-of (
     (1, ring-wrong (a .sizes .pages) (a .sizes .slots) ring) ∷
-    (2, fram-wrong fram) ∷
+    (2, fram-wrong fram-limit fram) ∷
     (3, key-wrong (length (a .key)) || nonce-wrong (length (a .nonce))) ∷
-    (4, parts-wrong Longer (a .open-part) (a .secret) fram || staging-wrong (a .staging) fram) ∷
+    (4, parts-wrong this-firmware (a .open-part) (a .secret) fram || staging-wrong (a .staging) fram) ∷
     (18, packet-wrong Longer (a .packet)) ∷
     (6, is-blank n) ∷
     (7, is-unreadable n) ∷
@@ -55,10 +56,10 @@ session-in-place ring fram a b n =
 pub job-in-place : (ring fram : List ℕ) (z : Sizes) (b staging session : List ℕ) → no-job-in b ≡ true
     → advance-call-stop ring fram (advances-in z b staging) session ≡ first-of (
     (1, ring-wrong (z .pages) (z .slots) ring) ∷
-    (2, fram-wrong fram) ∷
+    (2, fram-wrong fram-limit fram) ∷
     (4, staging-wrong staging fram || not (eqb (length session) session-length)) ∷
     (14, true) ∷ [])
 unfolding advance-call-stop
 job-in-place ring fram z b staging session e =
-    ap (λ (w : Bool). first-of ((1, ring-wrong (z .pages) (z .slots) ring) ∷ (2, fram-wrong fram) ∷ (4, staging-wrong staging fram || not (eqb (length session) session-length)) ∷ (14, w) ∷ []))
+    ap (λ (w : Bool). first-of ((1, ring-wrong (z .pages) (z .slots) ring) ∷ (2, fram-wrong fram-limit fram) ∷ (4, staging-wrong staging fram || not (eqb (length session) session-length)) ∷ (14, w) ∷ []))
     (ap (λ (j : Job). job-wrong Longer j z ring fram) (unread b e) ∙ no-job-wrong Longer z ring fram)

@@ -6,8 +6,8 @@ use mathlib.Core.List.{List}
 use native.Mathlib.Omega.{arith}
 use Rattle.octets.specs.Word.{value-of}
 use Rattle.checkpoint.specs.Half.{value-at, stored-restarts}
-use Rattle.checkpoint.specs.Checkpoint.{Form, Longer}
-use Rattle.protocol.specs.Types.{Looked, Restarts, Unseen, Stretch}
+use Rattle.checkpoint.specs.Checkpoint.{Form}
+use Rattle.protocol.specs.Types.{Looked, Restarts, Unseen, Stretch, this-firmware}
 use Rattle.protocol.specs.Calls.{Looks}
 use Rattle.protocol.specs.Operations.{look-by, look, open-stretch}
 use Rattle.keeper_c.specs.Calls.{looking-left, looking-by, look-call}
@@ -31,16 +31,16 @@ small-by (some s) n k h e =
 
 module _ (ring fram : List ℕ) (a : Looks) (restarts start long : ℕ) where
   -- the restarts fit a word
-  pub restarts-small : (k : ℕ) → Restarts k ≡ look Longer ring fram a → k < 2 ^ 32
+  pub restarts-small : (k : ℕ) → Restarts k ≡ look this-firmware ring fram a → k < 2 ^ 32
   unfolding look
   restarts-small k e = small-by _ _ k (restarts-value _ _) e
 
-  pub unseen : (r n : ℕ) → r ≡ n → Unseen n ≡ look Longer ring fram a → looking-left r restarts start long ≡ look-call ring fram a restarts start long
+  pub unseen : (r n : ℕ) → r ≡ n → Unseen n ≡ look this-firmware ring fram a → looking-left r restarts start long ≡ look-call ring fram a restarts start long
   unfolding look-call
-  unseen r n h e = ap (λ (m : ℕ). looking-left m restarts start long) h ∙ ap (λ (l : Looked). looking-by l (open-stretch Longer ring fram a) restarts start long) e
+  unseen r n h e = ap (λ (m : ℕ). looking-left m restarts start long) h ∙ ap (λ (l : Looked). looking-by l (open-stretch this-firmware ring fram a) restarts start long) e
 
-  pub seen : (k : ℕ) (z : Stretch) → Restarts k ≡ look Longer ring fram a → z ≡ open-stretch Longer ring fram a
+  pub seen : (k : ℕ) (z : Stretch) → Restarts k ≡ look this-firmware ring fram a → z ≡ open-stretch this-firmware ring fram a
       → looking-left 0 k (z .offset) (z .length) ≡ look-call ring fram a restarts start long
   unfolding look-call
   seen k z e f =
-      ap (λ (y : Stretch). looking-left 0 k (y .offset) (y .length)) f ∙ ap (λ (l : Looked). looking-by l (open-stretch Longer ring fram a) restarts start long) e
+      ap (λ (y : Stretch). looking-left 0 k (y .offset) (y .length)) f ∙ ap (λ (l : Looked). looking-by l (open-stretch this-firmware ring fram a) restarts start long) e

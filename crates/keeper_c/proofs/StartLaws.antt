@@ -7,8 +7,8 @@ use mathlib.Core.List.{List, []}
 use borrow.Author.Tests.{eq-eqb, ne-eqb}
 use lib.ListN.{length}
 use Rattle.stops.specs.Stops.{then-stop}
-use Rattle.checkpoint.specs.Checkpoint.{Longer, Checkpoint}
-use Rattle.protocol.specs.Types.{Job, Start, Begun, Stopped}
+use Rattle.checkpoint.specs.Checkpoint.{Checkpoint}
+use Rattle.protocol.specs.Types.{Job, Start, Begun, Stopped, this-firmware}
 use Rattle.protocol.specs.Calls.{FirstSave, Saves, PowersUp}
 use Rattle.protocol.specs.Operations.{Begin, begin, first-save-stop, first-save, save-stop, save, power-up-stop, power-up}
 use Rattle.job_bytes.specs.Bytes.{job-length}
@@ -47,33 +47,33 @@ good S key c j staging state secret job k l B m r k′ job′ h g n =
 -- ---- the three starts
 
 module _ (ring fram job : List ℕ) where
-  pub first-save-bad : (a : FirstSave) → (length job ≡ job-length → ⊥) → (p : Option ℕ) (r : ℕ) → p ≡ first-save-stop Longer ring fram a → r ≡ answer (then-stop p 14 true)
+  pub first-save-bad : (a : FirstSave) → (length job ≡ job-length → ⊥) → (p : Option ℕ) (r : ℕ) → p ≡ first-save-stop this-firmware ring fram a → r ≡ answer (then-stop p 14 true)
       → saving-left r (a .arguments .staging) job ≡ first-save-call ring fram a job
   unfolding first-save-call
-  first-save-bad a n p r = bad (first-save-stop Longer ring fram a) (first-save Longer ring fram a) (a .arguments .staging) [] job 0 n p r
+  first-save-bad a n p r = bad (first-save-stop this-firmware ring fram a) (first-save this-firmware ring fram a) (a .arguments .staging) [] job 0 n p r
 
-  pub save-bad : (a : Saves) → (length job ≡ job-length → ⊥) → (p : Option ℕ) (r : ℕ) → p ≡ save-stop Longer ring fram a → r ≡ answer (then-stop p 14 true)
+  pub save-bad : (a : Saves) → (length job ≡ job-length → ⊥) → (p : Option ℕ) (r : ℕ) → p ≡ save-stop this-firmware ring fram a → r ≡ answer (then-stop p 14 true)
       → saving-left r (a .arguments .staging) job ≡ save-call ring fram a job
   unfolding save-call
-  save-bad a n p r = bad (save-stop Longer ring fram a) (save Longer ring fram a) (a .arguments .staging) [] job 0 n p r
+  save-bad a n p r = bad (save-stop this-firmware ring fram a) (save this-firmware ring fram a) (a .arguments .staging) [] job 0 n p r
 
-  pub power-up-bad : (a : PowersUp) (k : ℕ) → (length job ≡ job-length → ⊥) → (p : Option ℕ) (r : ℕ) → p ≡ power-up-stop Longer ring fram a → r ≡ answer (then-stop p 14 true)
+  pub power-up-bad : (a : PowersUp) (k : ℕ) → (length job ≡ job-length → ⊥) → (p : Option ℕ) (r : ℕ) → p ≡ power-up-stop this-firmware ring fram a → r ≡ answer (then-stop p 14 true)
       → starting-left r (a .staging) (a .state) job k ≡ power-up-call ring fram a job k
   unfolding power-up-call
-  power-up-bad a k n p r = bad (power-up-stop Longer ring fram a) (power-up Longer ring fram a) (a .staging) (a .state) job k n p r
+  power-up-bad a k n p r = bad (power-up-stop this-firmware ring fram a) (power-up this-firmware ring fram a) (a .staging) (a .state) job k n p r
 
   module _ (l : length job ≡ job-length) (B : Begin) (r : ℕ) (job′ : List ℕ) where
-    pub first-save-good : (a : FirstSave) → B ≡ first-save Longer ring fram a → r ≡ start-number (B .answer) → job′ ≡ job-after (B .answer) (B .job) job
+    pub first-save-good : (a : FirstSave) → B ≡ first-save this-firmware ring fram a → r ≡ start-number (B .answer) → job′ ≡ job-after (B .answer) (B .job) job
         → 0 ≡ length-after (B .answer) (B .secret-length) 0 → starting-left r (B .staging) (B .state) job′ 0 ≡ first-save-call ring fram a job
     unfolding first-save-call first-save
     first-save-good a m h g n = good _ _ _ _ _ _ _ job 0 l B m r 0 job′ h g n
 
-    pub save-good : (a : Saves) → B ≡ save Longer ring fram a → r ≡ start-number (B .answer) → job′ ≡ job-after (B .answer) (B .job) job
+    pub save-good : (a : Saves) → B ≡ save this-firmware ring fram a → r ≡ start-number (B .answer) → job′ ≡ job-after (B .answer) (B .job) job
         → 0 ≡ length-after (B .answer) (B .secret-length) 0 → starting-left r (B .staging) (B .state) job′ 0 ≡ save-call ring fram a job
     unfolding save-call save
     save-good a m h g n = good _ _ _ _ _ _ _ job 0 l B m r 0 job′ h g n
 
-    pub power-up-good : (a : PowersUp) (k k′ : ℕ) → B ≡ power-up Longer ring fram a → r ≡ start-number (B .answer) → job′ ≡ job-after (B .answer) (B .job) job
+    pub power-up-good : (a : PowersUp) (k k′ : ℕ) → B ≡ power-up this-firmware ring fram a → r ≡ start-number (B .answer) → job′ ≡ job-after (B .answer) (B .job) job
         → k′ ≡ length-after (B .answer) (B .secret-length) k → starting-left r (B .staging) (B .state) job′ k′ ≡ power-up-call ring fram a job k
     unfolding power-up-call power-up
     power-up-good a k k′ m h g n = good _ _ _ _ _ _ _ job k l B m r k′ job′ h g n

@@ -5,6 +5,7 @@ use mathlib.Core.Option.{Option, none, some}
 use mathlib.Core.List.{List, [], _∷_}
 use lib.Dec.{eqb}
 use lib.ListN.{length}
+use Rattle.octets.specs.Limits.{fram-limit}
 use Rattle.octets.specs.Octets.{put}
 use Rattle.stops.specs.Stops.{first-of, then-stop}
 use Rattle.gcm.specs.Gcm.{encrypted, tag}
@@ -12,7 +13,7 @@ use Rattle.gcm.specs.Calls.{key-wrong, nonce-wrong, tag-wrong, buffers-wrong}
 use Rattle.ring.specs.Ring.{ring-wrong}
 use Rattle.checkpoint.specs.Fram.{fram-wrong}
 use Rattle.checkpoint.specs.Checkpoint.{Longer}
-use Rattle.protocol.specs.Types.{Session, Stretch, Looked, Restarts, Unseen, Progress, GoingOn, Saved, Restored, Refused}
+use Rattle.protocol.specs.Types.{Session, Stretch, Looked, Restarts, Unseen, Progress, GoingOn, Saved, Restored, Refused, this-firmware}
 use Rattle.protocol.specs.Calls.{Sizes, SaveArguments, FirstSave, Saves, PowersUp, Looks, Advances}
 use Rattle.protocol.specs.Operations.{Begin, Moved, staging-wrong, first-save-stop, first-save, save-stop, save, power-up-stop, power-up, look, open-stretch, job-wrong, advance}
 use Rattle.intel_hex.specs.Export.{Export, export}
@@ -78,13 +79,13 @@ saves-in a session = record { arguments = a; session = session-in session }
 
 module _ (ring fram : List ℕ) where
   unfoldable pub first-save-call : FirstSave → (job : List ℕ) → Starting
-  first-save-call a job = starting-by (with-job (first-save-stop Longer ring fram a) job) (first-save Longer ring fram a) (a .arguments .staging) [] job 0
+  first-save-call a job = starting-by (with-job (first-save-stop this-firmware ring fram a) job) (first-save this-firmware ring fram a) (a .arguments .staging) [] job 0
 
   unfoldable pub save-call : Saves → (job : List ℕ) → Starting
-  save-call a job = starting-by (with-job (save-stop Longer ring fram a) job) (save Longer ring fram a) (a .arguments .staging) [] job 0
+  save-call a job = starting-by (with-job (save-stop this-firmware ring fram a) job) (save this-firmware ring fram a) (a .arguments .staging) [] job 0
 
   unfoldable pub power-up-call : PowersUp → (job : List ℕ) → ℕ → Starting
-  power-up-call a job secret-length = starting-by (with-job (power-up-stop Longer ring fram a) job) (power-up Longer ring fram a) (a .staging) (a .state) job secret-length
+  power-up-call a job secret-length = starting-by (with-job (power-up-stop this-firmware ring fram a) job) (power-up this-firmware ring fram a) (a .staging) (a .state) job secret-length
 
 -- ---- look
 
@@ -103,7 +104,7 @@ looking-by (Unseen n) z restarts start long = looking-left n restarts start long
 looking-by (Restarts k) z restarts start long = looking-left 0 k (z .offset) (z .length)
 
 unfoldable pub look-call : List ℕ → List ℕ → Looks → ℕ → ℕ → ℕ → Looking
-look-call ring fram a restarts start long = looking-by (look Longer ring fram a) (open-stretch Longer ring fram a) restarts start long
+look-call ring fram a restarts start long = looking-by (look this-firmware ring fram a) (open-stretch this-firmware ring fram a) restarts start long
 
 -- ---- advance
 
@@ -134,9 +135,9 @@ session-after (Refused n) s buffer = buffer
 unfoldable pub advance-call-stop : (ring fram : List ℕ) → Advances → List ℕ → Option ℕ
 advance-call-stop ring fram a session = first-of (
     (1, ring-wrong (a .sizes .pages) (a .sizes .slots) ring) ∷
-    (2, fram-wrong fram) ∷
+    (2, fram-wrong (this-firmware .largest-fram) fram) ∷
     (4, staging-wrong (a .staging) fram || not (eqb (length session) session-length)) ∷
-    (14, job-wrong Longer (a .job) (a .sizes) ring fram) ∷ [])
+    (14, job-wrong (this-firmware .form) (a .job) (a .sizes) ring fram) ∷ [])
 
 abbrev pub advancing-by : Option ℕ → Moved → (ring fram job session : List ℕ) → Advancing
 advancing-by (some n) m ring fram job session = advancing-left n ring fram job session
@@ -150,7 +151,7 @@ advances-in z job staging = record { sizes = z; job = job-in job; staging = stag
 unfoldable pub advance-call : (ring fram : List ℕ) → Sizes → (staging job session : List ℕ) → Advancing
 advance-call ring fram z staging job session =
     let a = advances-in z job staging in
-    advancing-by (advance-call-stop ring fram a session) (advance Longer ring fram a) ring fram job session
+    advancing-by (advance-call-stop ring fram a session) (advance this-firmware ring fram a) ring fram job session
 
 -- ---- images as Intel HEX (document 02, A.1)
 

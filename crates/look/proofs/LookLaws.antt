@@ -7,14 +7,15 @@ use mathlib.Core.List.{List, [], _∷_, _++_}
 use native.Mathlib.Omega.{arith}
 use lib.ListN.{length}
 use borrow.Author.Tests.{eqb-true, not-false}
-use Rattle.octets.specs.Limits.{key-length}
+use Rattle.protocol.specs.Types.{this-firmware}
+use Rattle.octets.specs.Limits.{key-length, fram-limit, part-limit}
 use Rattle.stops.specs.Stops.{first-of, then-stop}
 use Rattle.stops.proofs.Laws.{tried, tried-first, first-append, no-lines, one-more, passes}
 use Rattle.ring.specs.Ring.{Newest, ring-wrong, read-ring, is-blank, is-unreadable, newest-record, half-named}
 use Rattle.ring.proofs.NewestLaws.{newest-half-fits}
-use Rattle.checkpoint.specs.Checkpoint.{Longer, head-length}
+use Rattle.checkpoint.specs.Checkpoint.{head-length}
 use Rattle.checkpoint.specs.Fram.{fram-wrong, half-length, half-at}
-use Rattle.checkpoint.proofs.FramLaws.{half-within, half-long}
+use Rattle.checkpoint.proofs.FramLaws.{an-image, half-within, half-long}
 use Rattle.checkpoint.proofs.StoredLaws.{head-facts}
 use Rattle.checkpoint.specs.Half.{form-of, open-length, stored-restarts}
 use Rattle.protocol.specs.Operations.{newest-half, look-stop, look, look-by, open-stretch, stretch-by}
@@ -34,7 +35,7 @@ module _ (pages slots : ℕ) (ring fram key : List ℕ) where
   half = half-at fram (half-named newest)
 
   abbrev stop : Option ℕ
-  stop = look-stop Longer ring fram (looks pages slots key)
+  stop = look-stop this-firmware ring fram (looks pages slots key)
 
   abbrev pub ring-lines : List (ℕ × Bool)
   ring-lines = (6, is-blank read) ∷ (7, is-unreadable read) ∷ []
@@ -60,7 +61,7 @@ module _ (pages slots : ℕ) (ring fram key : List ℕ) where
   -- what follows where the buffers pass
   pub record Buffers : Type 0 where
     pub ring-right : ring-wrong pages slots ring ≡ false
-    pub fram-right : fram-wrong fram ≡ false
+    pub fram-right : fram-wrong fram-limit fram ≡ false
     pub key-long : length key ≡ key-length
 
   pub buffers-pass : first-of (look-buffers pages slots ring fram key) ≡ none → Buffers
@@ -85,7 +86,7 @@ module _ (pages slots : ℕ) (ring fram key : List ℕ) where
   -- ---- what look and its companion answer
 
   pub sees : (s : Seen) {o : Option ℕ} → stop ≡ o → Sees s o fram (half-named newest)
-      → (view-looked (s .looked) ≡ look Longer ring fram (looks pages slots key)) × (view-stretch s ≡ open-stretch Longer ring fram (looks pages slots key))
+      → (view-looked (s .looked) ≡ look this-firmware ring fram (looks pages slots key)) × (view-stretch s ≡ open-stretch this-firmware ring fram (looks pages slots key))
   unfolding look open-stretch newest-half
   sees s e f = (
     f .looked ∙ sym (ap (λ (o : Option ℕ). look-by o (stored-restarts (form-of half) half)) e),
@@ -94,7 +95,7 @@ module _ (pages slots : ℕ) (ring fram key : List ℕ) where
 
   pub sees-half : (s : Seen) (rec : List ℕ) → rec ≡ newest → first-of (look-buffers pages slots ring fram key) ≡ none → first-of ring-lines ≡ none
       → Sees s (first-of (look-half key rec fram)) fram (half-named rec)
-      → (view-looked (s .looked) ≡ look Longer ring fram (looks pages slots key)) × (view-stretch s ≡ open-stretch Longer ring fram (looks pages slots key))
+      → (view-looked (s .looked) ≡ look this-firmware ring fram (looks pages slots key)) × (view-stretch s ≡ open-stretch this-firmware ring fram (looks pages slots key))
   sees-half s rec e b r f = sees s (on-half b r) (subst (λ (l : List ℕ). Sees s (first-of (look-half key l fram)) fram (half-named l)) e f)
 
   -- the open part lies within the image
@@ -106,9 +107,9 @@ module _ (pages slots : ℕ) (ring fram key : List ℕ) where
       let p = passes _ e in
       let lines = p .1 .1 .1 in
       let h : half-named newest < 2 = newest-half-fits pages slots ring (p .0) (lines .0) (lines .1 .0) in
-      let good = head-facts (form-of half) half (not-false _ (lines .1 .1 .0)) in
-      omega (arith, good .fits, half-long fram (half-named newest) (p .1 .0) (omega arith), half-within fram (half-named newest) (p .1 .0) (omega arith))
+      let good = head-facts part-limit (form-of half) half (not-false _ (lines .1 .1 .0)) in
+      omega (arith, good .fits, half-long fram (half-named newest) (an-image fram-limit fram (p .1 .0)) (omega arith), half-within fram (half-named newest) (an-image fram-limit fram (p .1 .0)) (omega arith))
 
-  pub stretch-within : (let z = open-stretch Longer ring fram (looks pages slots key) in z .offset + z .length ≤ length fram)
+  pub stretch-within : (let z = open-stretch this-firmware ring fram (looks pages slots key) in z .offset + z .length ≤ length fram)
   unfolding open-stretch newest-half
   stretch-within = fits stop refl

@@ -3,7 +3,7 @@ use Prim.Native.Nat.{ℕ}
 use mathlib.Core.Bool.{Bool, not}
 use mathlib.Core.List.{List, [], _∷_, _++_}
 use lib.ListN.{length, take}
-use Rattle.octets.specs.Limits.{nonce-length}
+use Rattle.octets.specs.Limits.{nonce-length, part-limit}
 use Rattle.ring.specs.Ring.{half-named}
 use Rattle.checkpoint.specs.Fram.{half-at}
 use Rattle.checkpoint.specs.Half.{form-of, good-head, good-tag}
@@ -16,7 +16,7 @@ look-buffers pages slots ring fram key = of-memories pages slots ring fram ++ ((
 
 -- those about a half, sealed under a nonce
 abbrev pub of-half : (key nonce half : List ℕ) → List (ℕ × Bool)
-of-half key nonce half = (11, not (good-head (form-of half) half)) ∷ (12, not (good-tag (form-of half) key nonce half)) ∷ []
+of-half key nonce half = (11, not (good-head part-limit (form-of half) half)) ∷ (12, not (good-tag (form-of half) key nonce half)) ∷ []
 
 -- those about the half that a record names
 abbrev pub look-half : (key newest fram : List ℕ) → List (ℕ × Bool)

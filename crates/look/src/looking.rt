@@ -19,11 +19,12 @@ ghost use mathlib.Core.Option.{none, some};
 ghost use mathlib.Core.List.{List};
 ghost use Prim.Native.Nat.{ℕ, _≤_};
 ghost use lib.ListN.{length};
-ghost use Rattle.octets.specs.Limits.{key-length, nonce-length, slot-length};
+ghost use Rattle.protocol.specs.Types.{this-firmware};
+ghost use Rattle.octets.specs.Limits.{key-length, nonce-length, slot-length, part-limit, fram-limit};
 ghost use Rattle.stops.specs.Stops.{first-of};
 ghost use Rattle.stops.specs.View.{check-number, stop-number};
 ghost use Rattle.ring.specs.Ring.{half-named};
-ghost use Rattle.checkpoint.specs.Checkpoint.{Longer, head-length};
+ghost use Rattle.checkpoint.specs.Checkpoint.{head-length};
 ghost use Rattle.checkpoint.specs.Fram.{fram-wrong};
 ghost use Rattle.checkpoint.specs.Half.{form-of, open-length, secret-length, good-head};
 ghost use Rattle.protocol.specs.Operations.{look, open-stretch, stretch-of};
@@ -33,7 +34,7 @@ ghost use Rattle.look.specs.Seen.{Sees};
 
 // Stops 11 and 12 of a half, whose head was read.
 pub fn check_half(key: &[u8], nonce: &[u8], half: &[u8], head: Head) -> Check
-    requires { ⌜ (length (now key) ≡ key-length) × (length (now nonce) ≡ nonce-length) × (head .good ≡ good-head (form-of (now half)) (now half)) × (head .start ≡ head-length (form-of (now half))) × (head .«open» ≡ open-length (form-of (now half)) (now half)) × (head .secret ≡ secret-length (form-of (now half)) (now half)) ⌝ }
+    requires { ⌜ (length (now key) ≡ key-length) × (length (now nonce) ≡ nonce-length) × (head .good ≡ good-head part-limit (form-of (now half)) (now half)) × (head .start ≡ head-length (form-of (now half))) × (head .«open» ≡ open-length (form-of (now half)) (now half)) × (head .secret ≡ secret-length (form-of (now half)) (now half)) ⌝ }
     ensures { λ r. ⌜ check-number r ≡ first-of (of-half (now (key .entry)) (now (nonce .entry)) (now (half .entry))) ⌝ }
 {
     if head.good {
@@ -56,7 +57,7 @@ fn unseen(stop: Stop) -> Seen
 
 // The half that a record names: stops 11 and 12, or its restarts and open part.
 fn see_half(record: &[u8], fram: &[u8], key: &[u8]) -> Seen
-    requires { ⌜ (fram-wrong (now fram) ≡ false) × (length (now key) ≡ key-length) × (length (now «record») ≡ slot-length) × (half-named (now «record») ≤ 1) ⌝ }
+    requires { ⌜ (fram-wrong fram-limit (now fram) ≡ false) × (length (now key) ≡ key-length) × (length (now «record») ≡ slot-length) × (half-named (now «record») ≤ 1) ⌝ }
     ensures { λ r. ⌜ Sees r (first-of (look-half (now (key .entry)) (now («record» .entry)) (now (fram .entry)))) (now (fram .entry)) (half-named (now («record» .entry))) ⌝ }
 {
     let number = half_named(record);
@@ -76,7 +77,7 @@ fn see_half(record: &[u8], fram: &[u8], key: &[u8]) -> Seen
 // The newest checkpoint, where stops 1, 2 and 3 do not apply.
 fn see_newest(pages: usize, slots: usize, ring: &[u8], fram: &[u8], key: &[u8]) -> Seen
     requires { ⌜ first-of (look-buffers pages slots (now ring) (now fram) (now key)) ≡ none ⌝ }
-    ensures { λ r. ⌜ (view-looked (r .looked) ≡ look Longer (now (ring .entry)) (now (fram .entry)) (looks pages slots (now (key .entry)))) × (view-stretch r ≡ open-stretch Longer (now (ring .entry)) (now (fram .entry)) (looks pages slots (now (key .entry)))) ⌝ }
+    ensures { λ r. ⌜ (view-looked (r .looked) ≡ look this-firmware (now (ring .entry)) (now (fram .entry)) (looks pages slots (now (key .entry)))) × (view-stretch r ≡ open-stretch this-firmware (now (ring .entry)) (now (fram .entry)) (looks pages slots (now (key .entry)))) ⌝ }
 {
     let newest = read_ring(ring, pages, slots);
     let check = Check::Pass
@@ -90,7 +91,7 @@ fn see_newest(pages: usize, slots: usize, ring: &[u8], fram: &[u8], key: &[u8]) 
 
 // What look answers, and where the open part lies in the FRAM image.
 pub fn see(pages: usize, slots: usize, ring: &[u8], fram: &[u8], key: &[u8]) -> Seen
-    ensures { λ r. ⌜ (view-looked (r .looked) ≡ look Longer (now (ring .entry)) (now (fram .entry)) (looks pages slots (now (key .entry)))) × (view-stretch r ≡ open-stretch Longer (now (ring .entry)) (now (fram .entry)) (looks pages slots (now (key .entry)))) ⌝ }
+    ensures { λ r. ⌜ (view-looked (r .looked) ≡ look this-firmware (now (ring .entry)) (now (fram .entry)) (looks pages slots (now (key .entry)))) × (view-stretch r ≡ open-stretch this-firmware (now (ring .entry)) (now (fram .entry)) (looks pages slots (now (key .entry)))) ⌝ }
 {
     let check = check_memories(ring, pages, slots, fram).stop_if(
         key_wrong(key.len()),
@@ -104,7 +105,7 @@ pub fn see(pages: usize, slots: usize, ring: &[u8], fram: &[u8], key: &[u8]) -> 
 
 // Answers the restarts of the newest checkpoint, or stops with 1, 2, 3, 6, 7, 11 or 12.
 pub fn look(pages: usize, slots: usize, ring: &[u8], fram: &[u8], key: &[u8]) -> Looked
-    ensures { λ r. ⌜ view-looked r ≡ look Longer (now (ring .entry)) (now (fram .entry)) (looks pages slots (now (key .entry))) ⌝ }
+    ensures { λ r. ⌜ view-looked r ≡ look this-firmware (now (ring .entry)) (now (fram .entry)) (looks pages slots (now (key .entry))) ⌝ }
 {
     let seen = see(pages, slots, ring, fram, key);
     seen.looked
@@ -118,7 +119,7 @@ pub fn open_part<'a>(
     fram: &'a [u8],
     key: &[u8],
 ) -> &'a [u8]
-    ensures { λ r. ⌜ now r ≡ stretch-of (now (fram .entry)) (open-stretch Longer (now (ring .entry)) (now (fram .entry)) (looks pages slots (now (key .entry)))) ⌝ }
+    ensures { λ r. ⌜ now r ≡ stretch-of (now (fram .entry)) (open-stretch this-firmware (now (ring .entry)) (now (fram .entry)) (looks pages slots (now (key .entry)))) ⌝ }
 {
     let seen = see(pages, slots, ring, fram, key);
     part(fram, seen.offset, seen.length)

@@ -1,6 +1,6 @@
--- The limits and lengths of documents 01 and 02, each named here and, for the code, in src/limits.rt. Elsewhere in the libraries one of
+-- The limits and lengths of documents 01 and 02, each named here and, if the code needs it, in src/limits.rt. Elsewhere in the libraries one of
 -- them stands as a numeral only in the types of arrays (a nonce of 12 bytes, a tag or a slot of 16), in Layout.antt of checkpoint, which
--- gives the papers' offsets as numbers of their own, in Older.antt of protocol, which writes document 01's lists out, where aes and gcm
+-- gives the papers' offsets as numbers of their own, in Older.antt of protocol, which writes document 01's lists out with its limits, where aes and gcm
 -- have the standards' numbers, and in Format.antt of intel_hex, which has that format's.
 -- Lengths are in bytes; a word is 4.
 use Prim.Native.Nat.{ℕ}
@@ -25,17 +25,30 @@ slot-length = 16
 abbrev pub fram-least : ℕ
 fram-least = 88
 
+-- document 02, A.5
 abbrev pub fram-limit : ℕ
-fram-limit = 131072
+fram-limit = 262144
+
+-- that of firmware before A.5, document 01's
+abbrev pub older-fram-limit : ℕ
+older-fram-limit = 131072
 
 -- its length is a multiple of this
 abbrev pub fram-step : ℕ
 fram-step = 8
 
 -- ---- a checkpoint
--- each part's limit, and the least length of a state buffer
+-- each part's limit, and the least length of a state buffer (document 02, A.5)
 abbrev pub part-limit : ℕ
-part-limit = 4096
+part-limit = 32768
+
+-- that of firmware before A.5, document 01's
+abbrev pub older-part-limit : ℕ
+older-part-limit = 4096
+
+-- the longest part whose length in words is a word's value: 4 × (2^30 − 1) bytes
+abbrev pub part-most : ℕ
+part-most = 4294967292
 
 abbrev pub restart-limit : ℕ
 restart-limit = 8

@@ -22,14 +22,14 @@ use Rattle.ring.proofs.SizeLaws.{sized}
 use Rattle.checkpoint.specs.Checkpoint.{Form, Checkpoint, empty-length, sealed-length, sealed}
 use Rattle.checkpoint.specs.Half.{stored}
 use Rattle.checkpoint.specs.Fram.{fram-wrong, half-length}
-use Rattle.checkpoint.proofs.FramLaws.{fram-kept, half-kept, half-within, halves-apart}
-use Rattle.protocol.specs.Types.{Origin, Save, PowerUp, Session, Phase, EraseFirst, Words, Record, Done, Progress, GoingOn}
+use Rattle.checkpoint.proofs.FramLaws.{Image, image-kept, fram-kept, half-kept, half-within, halves-apart}
+use Rattle.protocol.specs.Types.{Firmware, Origin, Save, PowerUp, Session, Phase, EraseFirst, Words, Record, Done, Progress, GoingOn}
 use Rattle.protocol.specs.Calls.{Advances, Setup, advanced-by}
 use Rattle.protocol.specs.Operations.{staging-wrong, session-of, in-phase, phase-wrong, job-wrong, advance-stop, going-on, finished, ended, stored-word, store, advance-by, advance}
 use Rattle.protocol.specs.Journal.{entered, Journal, Draft, Store, erase, word, record-slot, made, advanced}
 use Rattle.protocol.specs.History.{State, Handed, moved, step, left-by, refused, is-stopped}
 use Rattle.protocol.proofs.Facts.{no-fact}
-use Rattle.protocol.proofs.Invariant.{draft-of, length-good, sealed-fits, half-of, page-in, owed-page, DurableAt, Durable, Working, Before, last-erase, Stored, ErasingFirst, Writing, Doing, Holds, answer-of, Moving}
+use Rattle.protocol.proofs.Invariant.{Small, draft-of, length-good, sealed-fits, half-of, page-in, owed-page, DurableAt, Durable, Working, Before, last-erase, Stored, ErasingFirst, Writing, Doing, Holds, answer-of, Moving}
 
 -- the call of an advance with the job handed out
 abbrev pub call : Setup → Handed → Advances
@@ -37,31 +37,31 @@ call u h = record { sizes = u .sizes; job = h .job; staging = h .staging }
 
 -- what that advance leaves, and its answer: `rest` is to come of the draft of c
 abbrev pub Moves : Setup → State → Handed → Checkpoint → Origin → List Store → Type 0
-Moves u s h c origin rest = Moving u (step u s (advanced-by (call u h))) (advance (s .form) (s .ring) (s .fram) (call u h) .progress) c origin rest
+Moves u s h c origin rest = Moving u (step u s (advanced-by (call u h))) (advance (s .firmware) (s .ring) (s .fram) (call u h) .progress) c origin rest
 
 module _ {u : Setup} {s : State} {h : Handed} {n : ℕ} {stores : List Store} (inv : Holds u s) (w : Working u s h n stores) where
-  pub job-right : phase-wrong (h .job .phase) (h .job) (u .sizes) (s .ring) ≡ false → job-wrong (s .form) (h .job) (u .sizes) (s .ring) (s .fram) ≡ false
+  pub job-right : phase-wrong (h .job .phase) (h .job) (u .sizes) (s .ring) ≡ false → job-wrong (s .firmware .form) (h .job) (u .sizes) (s .ring) (s .fram) ≡ false
   unfolding job-wrong
   job-right e =
       let z = sized (u .sizes .pages) (u .sizes .slots) (s .ring) (inv .ring-right) .numbers in
       let l = length-good (u .key) (w .good) in
       let g = w .good in
       let l4 : h .job .length % 4 ≡ 0 = rw (w .length-is, l) (omega (arith, g .range)) in
-      let least : empty-length (s .form) ≤ h .job .length =
+      let least : empty-length (s .firmware .form) ≤ h .job .length =
       rw (w .length-is, l) (subst (λ (f : Form). empty-length f ≤ sealed-length (w .c .form) (length (w .c .open-part)) (length (w .c .secret))) (w .form-is) (omega arith)) in
-      let l44 : ltb (h .job .length) (empty-length (s .form)) ≡ false = le-ltb (h .job .length) (empty-length (s .form)) least in
+      let l44 : ltb (h .job .length) (empty-length (s .firmware .form)) ≡ false = le-ltb (h .job .length) (empty-length (s .firmware .form)) least in
       let lh : ltb (half-length (s .fram)) (h .job .length) ≡ false = le-ltb (half-length (s .fram)) (h .job .length) (rw (w .length-is, l) (g .fits)) in
       let p : leb (u .sizes .pages) (h .job .page) ≡ false = lt-leb (u .sizes .pages) (h .job .page) (rw (w .page-is) (mod-lt _ (omega arith))) in
       let q : leb (u .sizes .slots) (h .job .slot) ≡ false = lt-leb (u .sizes .slots) (h .job .slot) (rw (w .slot-is) (mod-lt _ (omega arith))) in
       let r : ltb 1 (h .job .half) ≡ false = le-ltb 1 (h .job .half) (rw (w .half-is) (omega arith)) in
       rw (eq-eqb (h .job .length % 4) 0 l4, l44, lh, p, q, r) e
 
-  pub advance-passes : phase-wrong (h .job .phase) (h .job) (u .sizes) (s .ring) ≡ false → advance-stop (s .form) (s .ring) (s .fram) (call u h) ≡ none
+  pub advance-passes : phase-wrong (h .job .phase) (h .job) (u .sizes) (s .ring) ≡ false → advance-stop (s .firmware) (s .ring) (s .fram) (call u h) ≡ none
   unfolding advance-stop first-of staging-wrong
-  advance-passes e = rw (inv .ring-right, inv .fram-right, le-ltb (length (h .staging)) (half-length (s .fram)) (w .staging-long), job-right e)
+  advance-passes e = rw (inv .ring-right, w .fram-fits, le-ltb (length (h .staging)) (half-length (s .fram)) (w .staging-long), job-right e)
 
   pub advance-stores : (p : Phase) → h .job .phase ≡ p → phase-wrong p (h .job) (u .sizes) (s .ring) ≡ false
-      → advance (s .form) (s .ring) (s .fram) (call u h) ≡ store p (s .ring) (s .fram) (call u h)
+      → advance (s .firmware) (s .ring) (s .fram) (call u h) ≡ store p (s .ring) (s .fram) (call u h)
   unfolding advance advance-by
   advance-stores p e f =
       rw (advance-passes (subst (λ (q : Phase). phase-wrong q (h .job) (u .sizes) (s .ring) ≡ false) (sym e) f))
@@ -77,20 +77,20 @@ after s h p ring fram sessions j = record {
   sessions = sessions;
   nonces = s .nonces;
   journal = j;
-  form = s .form;
+  firmware = s .firmware;
 }
 
 module _ (u : Setup) (s : State) (h : Handed) (P : State → Progress → Type 0) where
   pub after-going : (p : Phase) (ring fram : List ℕ) (j : Journal)
-      → advance (s .form) (s .ring) (s .fram) (call u h) ≡ going-on (h .job) p ring fram → advanced (s .journal) (s .journal .draft) ≡ j
-      → P (after s h p ring fram (s .sessions) j) GoingOn → P (step u s (advanced-by (call u h))) (advance (s .form) (s .ring) (s .fram) (call u h) .progress)
+      → advance (s .firmware) (s .ring) (s .fram) (call u h) ≡ going-on (h .job) p ring fram → advanced (s .journal) (s .journal .draft) ≡ j
+      → P (after s h p ring fram (s .sessions) j) GoingOn → P (step u s (advanced-by (call u h))) (advance (s .firmware) (s .ring) (s .fram) (call u h) .progress)
   unfolding step left-by entered refused is-stopped moved going-on
   after-going p ring fram j e f x = rw (e, f) x
 
   pub after-ended : (o : Origin) (ring fram : List ℕ) (j : Journal) → h .job .origin ≡ o
-      → advance (s .form) (s .ring) (s .fram) (call u h) ≡ ended (h .job) ring fram → advanced (s .journal) (s .journal .draft) ≡ j
+      → advance (s .firmware) (s .ring) (s .fram) (call u h) ≡ ended (h .job) ring fram → advanced (s .journal) (s .journal .draft) ≡ j
       → P (after s h Done ring fram (session-of (h .job) ∷ s .sessions) j) (finished o)
-      → P (step u s (advanced-by (call u h))) (advance (s .form) (s .ring) (s .fram) (call u h) .progress)
+      → P (step u s (advanced-by (call u h))) (advance (s .firmware) (s .ring) (s .fram) (call u h) .progress)
   unfolding step left-by entered refused is-stopped moved ended finished
   after-ended Save ring fram j o e f x =
       rw e (subst (λ (q : Origin). P (moved s (finished q) (ended (h .job) ring fram) (h .staging)
@@ -102,15 +102,17 @@ module _ (u : Setup) (s : State) (h : Handed) (P : State → Progress → Type 0
 -- a job in its next phase
 unfoldable pub working-on : {u : Setup} {s : State} {h : Handed} {n : ℕ} {stores : List Store} (t : State) (rest : List Store) (p : Phase) (w : Working u s h n stores)
     → t .journal .draft ≡ some (draft-of (w .c) (w .origin) rest)
-    → half-length (t .fram) ≡ half-length (s .fram) → t .nonces ≡ s .nonces → s .form ≡ t .form
+    → length (t .fram) ≡ length (s .fram) → t .nonces ≡ s .nonces → s .firmware ≡ t .firmware
     → Working u t (record { job = in-phase (h .job) p; staging = h .staging }) n rest
 unfolding in-phase
-working-on t rest p w d l m f = record {
+working-on {s = s} t rest p w d l m f = record {
   c = w .c;
   origin = w .origin;
-  form-is = w .form-is ∙ f;
+  form-is = w .form-is ∙ ap (λ (x : Firmware). x .form) f;
+  small = subst (λ (x : Firmware). Small x (w .c)) f (w .small);
+  fram-fits = subst (λ (x : Firmware). fram-wrong (x .largest-fram) (t .fram) ≡ false) f (fram-kept (s .firmware .largest-fram) (s .fram) (t .fram) l (w .fram-fits));
   draft-is = d;
-  good = rw l (w .good);
+  good = rw (half-kept (s .fram) (t .fram) l) (w .good);
   nonce-known = rw m (w .nonce-known);
   length-is = w .length-is;
   origin-is = w .origin-is;
@@ -121,7 +123,7 @@ working-on t rest p w d l m f = record {
   tag-is = w .tag-is;
   restarts-is = w .restarts-is;
   packet-is = w .packet-is;
-  staging-long = rw l (w .staging-long);
+  staging-long = rw (half-kept (s .fram) (t .fram) l) (w .staging-long);
   staged = w .staged;
 }
 
@@ -210,7 +212,7 @@ module _ (u : Setup) (s : State) (h : Handed) (inv : Holds u s) where
         draft = some (draft-of (w .c) (w .origin) rest);
       }
 
-      moves : advance (s .form) (s .ring) (s .fram) (call u h) ≡ going-on (h .job) (Words 0) ring (s .fram)
+      moves : advance (s .firmware) (s .ring) (s .fram) (call u h) ≡ going-on (h .job) (Words 0) ring (s .fram)
       moves = advance-stores inv w (EraseFirst p) e (page-right u s p inv (x .page-is))
 
       k : Handed
@@ -242,7 +244,7 @@ halves-differ count l e = omega arith
 
 -- bytes put into the half of the next record leave the entry's half as it is
 pub fram-durable : {u : Setup} {ring fram : List ℕ} {nonces : List (List ℕ)} {entry : Option Checkpoint} {count : ℕ} {owed : Bool} {power-ups : ℕ} (zs : List ℕ) (i : ℕ)
-    → fram-wrong fram ≡ false → half-of (count + 1) * half-length fram ≤ i → i + length zs ≤ half-of (count + 1) * half-length fram + half-length fram
+    → Image fram → half-of (count + 1) * half-length fram ≤ i → i + length zs ≤ half-of (count + 1) * half-length fram + half-length fram
     → Durable u ring fram nonces entry count owed power-ups → Durable u ring (put fram i zs) nonces entry count owed power-ups
 fram-durable zs i f low high (inl x) = inl x
 fram-durable {u} {ring} {fram} {count = count} zs i f low high (inr (c, r)) =
@@ -281,7 +283,7 @@ fram-durable {u} {ring} {fram} {count = count} zs i f low high (inr (c, r)) =
 
 -- a word of staging goes to the half
 pub word-stored : {u : Setup} {s : State} {h : Handed} {n : ℕ} {stores : List Store} (x : Working u s h n stores) (w : ℕ)
-    → fram-wrong (s .fram) ≡ false → 4 * w + 4 ≤ h .job .length → Stored u s h (4 * w) (x .c)
+    → Image (s .fram) → 4 * w + 4 ≤ h .job .length → Stored u s h (4 * w) (x .c)
     → Written (put (s .fram) (h .job .half * half-length (s .fram) + 4 * w) (part (h .staging) (4 * w) 4)) (h .job .half * half-length (s .fram)) (4 * (w + 1)) (sealed (u .key) (x .c))
 word-stored {u} {s} {h} x w f l z =
     subst (λ (m : ℕ). Written (put (s .fram) (base + 4 * w) new) base m (sealed (u .key) (x .c))) long
@@ -347,8 +349,7 @@ module _ {u : Setup} {s : State} {h : Handed} {rest : List Store} (inv : Holds u
   word-before : (p : Phase) → Before u (word-state s h w p (x .working .c) (x .working .origin) rest) (next-job h p) rest
   unfolding working-on
   word-before p = record {
-    working = working-on (word-state s h w p (x .working .c) (x .working .origin) rest) rest p (x .working) refl
-        (half-kept (s .fram) (stored-word (s .fram) (h .staging) (h .job) w) word-kept) refl refl;
+    working = working-on (word-state s h w p (x .working .c) (x .working .origin) rest) rest p (x .working) refl word-kept refl refl;
     unlike = x .unlike;
   }
 
@@ -368,7 +369,7 @@ module _ {u : Setup} {s : State} {h : Handed} {rest : List Store} (inv : Holds u
       (record {
         holds = record {
           ring-right = inv .ring-right;
-          fram-right = fram-kept (s .fram) fram word-kept (inv .fram-right);
+          fram-right = image-kept (s .fram) fram word-kept (inv .fram-right);
           durable = word-durable;
           sessions-known = inv .sessions-known;
           sessions-match = inv .sessions-match;
@@ -392,7 +393,7 @@ module _ {u : Setup} {s : State} {h : Handed} {rest : List Store} (inv : Holds u
       answer [] f = absurd (f refl)
       answer (y ∷ r) f = refl
 
-      moves : advance (s .form) (s .ring) (s .fram) (call u h) ≡ going-on (h .job) p (s .ring) fram
+      moves : advance (s .firmware) (s .ring) (s .fram) (call u h) ≡ going-on (h .job) p (s .ring) fram
       moves = advance-stores inv (x .working) (Words w) e (lt-leb (h .job .length) (4 * w) (omega arith))
           ∙ ap (λ (q : Phase). going-on (h .job) q (s .ring) fram) next
 

@@ -11,7 +11,7 @@ use Rattle.stops.proofs.Laws.{neither, passes}
 use Rattle.ring.specs.Ring.{ring-wrong, page-erased}
 use Rattle.checkpoint.specs.Checkpoint.{Form, Checkpoint, empty-length}
 use Rattle.checkpoint.specs.Fram.{half-length}
-use Rattle.protocol.specs.Types.{Save, PowerUp, Origin, Phase, EraseFirst, Words, Record, EraseAfter, Done, Job}
+use Rattle.protocol.specs.Types.{Firmware, Save, PowerUp, Origin, Phase, EraseFirst, Words, Record, EraseAfter, Done, Job}
 use Rattle.protocol.specs.Calls.{Setup, advanced-by, Sizes, Advances}
 use Rattle.protocol.specs.Operations.{finished, session-of, in-phase, phase-wrong, ended, recorded, store, advance, job-wrong, advance-stop, advance-by}
 use Rattle.protocol.specs.Journal.{Journal, Draft, Store, made, advanced, entered}
@@ -54,7 +54,7 @@ module _ (u : Setup) (s : State) (h : Handed) (inv : Holds u s) where
       j : Journal
       j = record { entry = s .journal .entry; count = s .journal .count; owed = false; power-ups = s .journal .power-ups; draft = some draft }
 
-      moves : advance (s .form) (s .ring) (s .fram) (call u h) ≡ ended (h .job) ring (s .fram)
+      moves : advance (s .firmware) (s .ring) (s .fram) (call u h) ≡ ended (h .job) ring (s .fram)
       moves = advance-stores inv (x .working) (EraseAfter p) e (page-right u s p inv (x .page-is))
 
       k : Handed
@@ -114,23 +114,23 @@ phase-passes form j z ring fram e =
     neither (not (eqb (j .length % 4) 0) || ltb (j .length) (empty-length form) || ltb (half-length fram) (j .length) ||
     leb (z .pages) (j .page) || leb (z .slots) (j .slot) || ltb 1 (j .half)) (phase-wrong (j .phase) j z ring) e .1
 
-pub job-passes : (form : Form) (ring fram : List ℕ) (a : Advances) → advance-stop form ring fram a ≡ none → job-wrong form (a .job) (a .sizes) ring fram ≡ false
+pub job-passes : (firmware : Firmware) (ring fram : List ℕ) (a : Advances) → advance-stop firmware ring fram a ≡ none → job-wrong (firmware .form) (a .job) (a .sizes) ring fram ≡ false
 unfolding advance-stop
-job-passes form ring fram a e = passes _ e .1 .1 .1 .0
+job-passes firmware ring fram a e = passes _ e .1 .1 .1 .0
 
-done-stops : (u : Setup) (s : State) (h : Handed) → h .job .phase ≡ Done → (o : Option ℕ) → advance-stop (s .form) (s .ring) (s .fram) (call u h) ≡ o
+done-stops : (u : Setup) (s : State) (h : Handed) → h .job .phase ≡ Done → (o : Option ℕ) → advance-stop (s .firmware) (s .ring) (s .fram) (call u h) ≡ o
     → step u s (advanced-by (call u h)) ≡ s
 unfolding step left-by entered refused is-stopped advance advance-by moved phase-wrong
 done-stops u s h e (some x) f = rw f
 done-stops u s h e none f = no-fact (subst (λ (q : Phase). phase-wrong q (h .job) (u .sizes) (s .ring) ≡ false) e
-    (phase-passes (s .form) (h .job) (u .sizes) (s .ring) (s .fram) (job-passes (s .form) (s .ring) (s .fram) (call u h) f)))
+    (phase-passes (s .firmware .form) (h .job) (u .sizes) (s .ring) (s .fram) (job-passes (s .firmware) (s .ring) (s .fram) (call u h) f)))
 
-pub done-refused : (u : Setup) (s : State) (h : Handed) → h .job .phase ≡ Done → (o : Option ℕ) → advance-stop (s .form) (s .ring) (s .fram) (call u h) ≡ o
+pub done-refused : (u : Setup) (s : State) (h : Handed) → h .job .phase ≡ Done → (o : Option ℕ) → advance-stop (s .firmware) (s .ring) (s .fram) (call u h) ≡ o
     → T (refused s (advanced-by (call u h)))
 unfolding refused is-stopped advance advance-by phase-wrong
 done-refused u s h e (some x) f = rw f tt
 done-refused u s h e none f = no-fact (subst (λ (q : Phase). phase-wrong q (h .job) (u .sizes) (s .ring) ≡ false) e
-    (phase-passes (s .form) (h .job) (u .sizes) (s .ring) (s .fram) (job-passes (s .form) (s .ring) (s .fram) (call u h) f)))
+    (phase-passes (s .firmware .form) (h .job) (u .sizes) (s .ring) (s .fram) (job-passes (s .firmware) (s .ring) (s .fram) (call u h) f)))
 
 module _ (u : Setup) (s : State) (inv : Holds u s) where
   hold-call : (h : Handed) (p : Phase) → h .job .phase ≡ p → Doing u s h p → Holds u (step u s (advanced-by (call u h)))
@@ -138,7 +138,7 @@ module _ (u : Setup) (s : State) (inv : Holds u s) where
   hold-call h (Words w) e d = writing u s h inv w e d .holds
   hold-call h Record e d = recording inv d e .holds
   hold-call h (EraseAfter p) e d = erasing-after u s h inv p e d .holds
-  hold-call h Done e d = rw (done-stops u s h e (advance-stop (s .form) (s .ring) (s .fram) (call u h)) refl) inv
+  hold-call h Done e d = rw (done-stops u s h e (advance-stop (s .firmware) (s .ring) (s .fram) (call u h)) refl) inv
 
   pub hold-advanced : (a : Advances) → Keeps u s (advanced-by a) → Holds u (step u s (advanced-by a))
   unfolding Keeps

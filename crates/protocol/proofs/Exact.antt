@@ -9,7 +9,7 @@ use Rattle.ring.specs.Ring.{page-before}
 use Rattle.ring.proofs.StoreLaws.{erased-is}
 use Rattle.checkpoint.specs.Checkpoint.{Checkpoint}
 use Rattle.protocol.specs.Types.{Job, Session, Origin, Save, PowerUp, Phase, EraseFirst, Words, Record, EraseAfter, Done}
-use Rattle.protocol.specs.Calls.{Sizes, Advances, Event, first-saved, saved, powered-up, advanced-by, PowerLoss, Updated, lost-in-store}
+use Rattle.protocol.specs.Calls.{Sizes, Advances, Event, first-saved, saved, powered-up, advanced-by, PowerLoss, updated-to, lost-in-store}
 use Rattle.protocol.specs.Operations.{no-job, going-on, ended, stored-word, recorded, erase-follows, after-record, store, advance-by, advance, begin, first-save, save, power-up, finished, no-session, session-of}
 use Rattle.protocol.specs.History.{State, broken-ring, broken-fram, is-stop, bytes-of}
 use Rattle.protocol.specs.Recovery.{start-answer, is-going, Exact}
@@ -88,5 +88,5 @@ exact s (advanced-by a) = (
   ),
 )
 exact s PowerLoss = tt
-exact s Updated = tt
+exact s (updated-to firmware) = tt
 exact s (lost-in-store left) = tt

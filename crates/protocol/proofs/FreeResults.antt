@@ -14,7 +14,7 @@ use Rattle.ring.specs.Ring.{ring-wrong, read-ring, is-record, is-blank, is-unre
 use Rattle.ring.proofs.NewestLaws.{newest-is-record}
 use Rattle.ring.proofs.StoreLaws.{newest-latest}
 use Rattle.checkpoint.specs.Checkpoint.{Form, Older, Longer}
-use Rattle.protocol.specs.Types.{Job, Session, Refused, Stopped}
+use Rattle.protocol.specs.Types.{Firmware, Job, Session, Refused, Stopped}
 use Rattle.protocol.specs.Calls.{Sizes, Saves, Advances}
 use Rattle.protocol.specs.Operations.{stale, begin, no-job, save-stop, save, no-session, job-wrong, advance-stop, advance-by, advance}
 use Rattle.protocol.proofs.Facts.{no-fact}
@@ -33,17 +33,17 @@ four-stop false true c d e = (2, refl, lit≤ tt)
 four-stop false false true d e = (4, refl, lit≤ tt)
 four-stop false false false d e = (14, rw e, lit≤ tt)
 
-advance-stops : (form : Form) (ring fram : List ℕ) (a : Advances) (x : ℕ) → advance-stop form ring fram a ≡ some x → advance form ring fram a .progress ≡ Refused x
+advance-stops : (firmware : Firmware) (ring fram : List ℕ) (a : Advances) (x : ℕ) → advance-stop firmware ring fram a ≡ some x → advance firmware ring fram a .progress ≡ Refused x
 unfolding advance advance-by
-advance-stops form ring fram a x e = rw e
+advance-stops firmware ring fram a x e = rw e
 
 -- an advance of it always stops, by 14 at the latest
-pub no-job-stops : (form : Form) (ring fram : List ℕ) (a : Advances) → a .job ≡ no-job → (x : ℕ) × (advance form ring fram a .progress ≡ Refused x) × (x ≤ 14)
+pub no-job-stops : (firmware : Firmware) (ring fram : List ℕ) (a : Advances) → a .job ≡ no-job → (x : ℕ) × (advance firmware ring fram a .progress ≡ Refused x) × (x ≤ 14)
 unfolding advance-stop
-no-job-stops form ring fram a e =
-    let w : job-wrong form (a .job) (a .sizes) ring fram ≡ true = ap (λ (j : Job). job-wrong form j (a .sizes) ring fram) e ∙ no-job-wrong form (a .sizes) ring fram in
+no-job-stops firmware ring fram a e =
+    let w : job-wrong (firmware .form) (a .job) (a .sizes) ring fram ≡ true = ap (λ (j : Job). job-wrong (firmware .form) j (a .sizes) ring fram) e ∙ no-job-wrong (firmware .form) (a .sizes) ring fram in
     let s = four-stop _ _ _ _ w in
-    (s .0, advance-stops form ring fram a (s .0) (s .1), s .2)
+    (s .0, advance-stops firmware ring fram a (s .0) (s .1), s .2)
 
 -- ---- no session
 
@@ -78,15 +78,15 @@ eight-stop false false false false false true f g g′ more w = (6, refl, inl (l
 eight-stop false false false false false false true g g′ more w = (7, refl, inl (lit≤ tt))
 eight-stop false false false false false false false g g′ more w = (8, rw (w refl refl refl), inl (lit≤ tt))
 
-save-stops : (form : Form) (ring fram : List ℕ) (a : Saves) (x : ℕ) → save-stop form ring fram a ≡ some x → save form ring fram a .answer ≡ Stopped x
+save-stops : (firmware : Firmware) (ring fram : List ℕ) (a : Saves) (x : ℕ) → save-stop firmware ring fram a ≡ some x → save firmware ring fram a .answer ≡ Stopped x
 unfolding save begin
-save-stops form ring fram a x e = rw e
+save-stops firmware ring fram a x e = rw e
 
 -- a save with it always stops, by 8 at the latest
-pub no-session-stops : (form : Form) (ring fram : List ℕ) (a : Saves) → a .session ≡ no-session → (x : ℕ) × (save form ring fram a .answer ≡ Stopped x) × By8 x
+pub no-session-stops : (firmware : Firmware) (ring fram : List ℕ) (a : Saves) → a .session ≡ no-session → (x : ℕ) × (save firmware ring fram a .answer ≡ Stopped x) × By8 x
 unfolding save-stop
-no-session-stops form ring fram a e =
+no-session-stops firmware ring fram a e =
     let z : Sizes = a .arguments .sizes in
     let s = eight-stop _ _ _ _ _ _ _ _ _ _ (λ r b u.
     ap (λ (y : Session). stale ring (z .slots) (read-ring ring (z .pages) (z .slots)) y) e ∙ no-session-stale ring z r b u) in
-    (s .0, save-stops form ring fram a (s .0) (s .1), s .2)
+    (s .0, save-stops firmware ring fram a (s .0) (s .1), s .2)

@@ -10,7 +10,7 @@ use native.Mathlib.Omega.{arith}
 use lib.ListN.{replicate, length, length-replicate}
 use lib.Dec.{lit<, lit≤, eqb, ltb}
 use borrow.Author.Tests.{eq-eqb, le-ltb}
-use Rattle.octets.specs.Limits.{pages-least, slots-least, slot-length, fram-limit, part-limit, restart-limit, packet-limit, key-length, nonce-length}
+use Rattle.octets.specs.Limits.{pages-least, slots-least, slot-length, restart-limit, packet-limit, key-length, nonce-length}
 use Rattle.octets.specs.Octets.{erased, blank, put, number, bytes}
 use Rattle.octets.proofs.Laws.{blank-erased}
 use Rattle.octets.proofs.Numbers.{length-bytes, number-bytes}
@@ -23,14 +23,14 @@ use Rattle.checkpoint.proofs.SealedLaws.{empty-passes}
 use Rattle.checkpoint.proofs.StoredLaws.{packet-small}
 use Rattle.checkpoint.specs.Fram.{fram-wrong, half-length}
 use Rattle.checkpoint.specs.Checkpoint.{Form, Older, Longer, Checkpoint, sealed, empty-length, sealed-length}
-use Rattle.checkpoint.proofs.FramLaws.{half-sizes, half-kept}
-use Rattle.protocol.specs.Types.{Session, Save, PowerUp, Words, EraseFirst, Stopped}
-use Rattle.protocol.specs.Calls.{FirstSave, Saves, PowersUp, Setup, Event, first-saved, saved, powered-up, Updated}
+use Rattle.checkpoint.proofs.FramLaws.{an-image, fram-kept, half-sizes, half-kept}
+use Rattle.protocol.specs.Types.{Firmware, first-firmware, this-firmware, Session, Save, PowerUp, Words, EraseFirst, Stopped}
+use Rattle.protocol.specs.Calls.{FirstSave, Saves, PowersUp, Setup, Event, first-saved, saved, powered-up, updated-to}
 use Rattle.protocol.specs.Operations.{key-wrong, nonce-wrong, staging-wrong, parts-wrong, packet-wrong, session-wrong, save-restarts, written-number, larger, stale, Begin, job-of, first-phase, power-up, first-checkpoint, first-save-stop, save-checkpoint, save-stop}
 use Rattle.protocol.specs.Journal.{entered, dropped, drafted, stores-of, power-up-draft, empty}
-use Rattle.protocol.specs.History.{State, fresh, left-by, step, run, Keeps, Allowed}
+use Rattle.protocol.specs.History.{State, fresh, left-by, step, run, Succeeds, Keeps, Allowed}
 use Rattle.protocol.specs.Recovery.{Fits, Last}
-use Rattle.protocol.specs.Histories.{smallest, bench-state, but-the-last, interrupted, Interrupted, Examples, to-its-end, staging-room, state-room, numbered-first, numbered-save, numbered-power-up, with-session, saves-on, power-ups-on, history, Reachable, repeats-on, repeats, StaleRepeats, newer, NewerPacket, updating, Updates, bench-fram, UpdatedInErase, OutgrownExample}
+use Rattle.protocol.specs.Histories.{smallest, bench-state, but-the-last, interrupted, interrupted-unit, Interrupted, Examples, to-its-end, staging-room, state-room, numbered-first, numbered-save, numbered-power-up, with-session, saves-on, power-ups-on, history, Reachable, repeats-on, repeats, StaleRepeats, newer, NewerPacket, updating, Updates, bench-fram, UpdatedInErase, OutgrownExample}
 use Rattle.protocol.proofs.Facts.{no-fact}
 use Rattle.protocol.proofs.Invariant.{half-of, session-in, Holds, Ended}
 use Rattle.protocol.proofs.Reading.{reads, record-found, new-nonce}
@@ -61,25 +61,27 @@ below-more n nonces h b m k = go (List·Memᴰ·cases-cons k)
 
 -- ---- conditions that such starts pass
 
-length-staging : length staging-room ≡ fram-limit / 2
+length-staging : (firmware : Firmware) → length (staging-room firmware) ≡ firmware .largest-fram / 2
 unfolding staging-room
-length-staging = length-replicate {A = ℕ} (fram-limit / 2) 0
+length-staging firmware = length-replicate {A = ℕ} (firmware .largest-fram / 2) 0
 
-length-state : length state-room ≡ part-limit
+length-state : (firmware : Firmware) → length (state-room firmware) ≡ firmware .longest-part
 unfolding state-room
-length-state = length-replicate {A = ℕ} part-limit 0
+length-state firmware = length-replicate {A = ℕ} (firmware .longest-part) 0
 
-room : (fram : List ℕ) → fram-wrong fram ≡ false → half-length fram ≤ length staging-room
-room fram e = rw length-staging (half-sizes fram e .1)
+room : (firmware : Firmware) (fram : List ℕ) → fram-wrong (firmware .largest-fram) fram ≡ false → half-length fram ≤ length (staging-room firmware)
+room firmware fram e = rw (length-staging firmware) (half-sizes (firmware .largest-fram) fram e .1)
 
 module _ (u : Setup) (key-long : length (u .key) ≡ key-length) (i : ℕ) where
   sizes-pass : key-wrong (length (u .key)) || nonce-wrong (length (bytes nonce-length i)) ≡ false
   sizes-pass = rw (eq-eqb (length (u .key)) key-length key-long, eq-eqb (length (bytes nonce-length i)) nonce-length (length-bytes nonce-length i))
 
-parts-pass : (form : Form) (fram : List ℕ) → fram-wrong fram ≡ false → empty-length form ≤ half-length fram → parts-wrong form [] [] fram || staging-wrong staging-room fram ≡ false
+parts-pass : (firmware : Firmware) (fram : List ℕ) → fram-wrong (firmware .largest-fram) fram ≡ false → empty-length (firmware .form) ≤ half-length fram
+    → parts-wrong firmware [] [] fram || staging-wrong (staging-room firmware) fram ≡ false
 unfolding parts-wrong staging-wrong
-parts-pass form fram e l =
-    rw (empty-passes, le-ltb (half-length fram) (sealed-length form 0 0) (omega arith)) (le-ltb (length staging-room) (half-length fram) (room fram e))
+parts-pass firmware fram e l =
+    rw (empty-passes (firmware .longest-part), le-ltb (half-length fram) (sealed-length (firmware .form) 0 0) (omega arith))
+    (le-ltb (length (staging-room firmware)) (half-length fram) (room firmware fram e))
 
 packet-passes : (form : Form) (packet : ℕ) → packet ≤ packet-limit → packet-wrong form packet ≡ false
 unfolding packet-wrong
@@ -94,13 +96,15 @@ no-number Longer packet e = e
 
 -- ---- the first save
 
-first-passes : (u : Setup) (form : Form) (ring fram : List ℕ) → blank ring ≡ true → Fits u ring fram → empty-length form ≤ half-length fram → (i : ℕ) → first-save-stop form ring fram (numbered-first u i) ≡ none
+first-passes : (u : Setup) (firmware : Firmware) (ring fram : List ℕ) → blank ring ≡ true → Fits u firmware ring fram → empty-length (firmware .form) ≤ half-length fram
+    → (i : ℕ) → first-save-stop firmware ring fram (numbered-first u firmware i) ≡ none
 unfolding first-save-stop first-of
-first-passes u form ring fram b f l i = rw (f .ring-right, f .fram-right, sizes-pass u (f .key-right) i, parts-pass form fram (f .fram-right) l, packet-passes form 0 (lit≤ tt), b)
+first-passes u firmware ring fram b f l i =
+    rw (f .ring-right, f .fram-right, sizes-pass u (f .key-right) i, parts-pass firmware fram (f .fram-right) l, packet-passes (firmware .form) 0 (lit≤ tt), b)
 
 -- ---- each start, run to its end
 
--- n starts were recorded, the last with a checkpoint of k restarts, packet number 0 and empty parts, and a half has room for one of the firmware's form
+-- n starts were recorded, the last with a checkpoint of k restarts, packet number 0 and empty parts; the firmware takes the FRAM, and a half has room for one of its form
 record Standing (u : Setup) (s : State) (n k : ℕ) : Type 0 where
   c : Checkpoint
   holds : Holds u s
@@ -110,19 +114,21 @@ record Standing (u : Setup) (s : State) (n k : ℕ) : Type 0 where
   no-packet : c .packet ≡ 0
   no-open : length (c .open-part) ≡ 0
   no-secret : length (c .secret) ≡ 0
-  enough : empty-length (s .form) ≤ half-length (s .fram)
+  framed : fram-wrong (s .firmware .largest-fram) (s .fram) ≡ false
+  enough : empty-length (s .firmware .form) ≤ half-length (s .fram)
   numbers : Below n (s .nonces)
 
 -- and the last made all of its stores, by firmware of its form
 record After (u : Setup) (s : State) (n k : ℕ) : Type 0 where
   standing : Standing u s n k
   ended : Ended u s (standing .c)
-  made-in : standing .c .form ≡ s .form
+  made-in : standing .c .form ≡ s .firmware .form
 
 after-whole : (u : Setup) (s : State) (n : ℕ) (c : Checkpoint) (events : List Event) → Whole u s c (bytes nonce-length n) events
-    → s .journal .count ≡ n → Below n (s .nonces) → n < 2 ^ 96 → c .packet ≡ 0 → length (c .open-part) ≡ 0 → length (c .secret) ≡ 0 → empty-length (s .form) ≤ half-length (s .fram)
-    → c .form ≡ s .form → After u (run u s events) (suc n) (c .restarts)
-after-whole u s n c events w e b h z o p l q = record {
+    → s .journal .count ≡ n → Below n (s .nonces) → n < 2 ^ 96 → c .packet ≡ 0 → length (c .open-part) ≡ 0 → length (c .secret) ≡ 0
+    → fram-wrong (s .firmware .largest-fram) (s .fram) ≡ false → empty-length (s .firmware .form) ≤ half-length (s .fram)
+    → c .form ≡ s .firmware .form → After u (run u s events) (suc n) (c .restarts)
+after-whole u s n c events w e b h z o p fr l q = record {
   standing = record {
     c = c;
     holds = w .holds;
@@ -132,89 +138,90 @@ after-whole u s n c events w e b h z o p l q = record {
     no-packet = z;
     no-open = o;
     no-secret = p;
-    enough = rw (w .passed .form, half-kept (s .fram) (run u s events .fram) (w .passed .fram-long)) l;
+    framed = rw (w .passed .firmware) (fram-kept (s .firmware .largest-fram) (s .fram) (run u s events .fram) (w .passed .fram-long) fr);
+    enough = rw (w .passed .firmware, half-kept (s .fram) (run u s events .fram) (w .passed .fram-long)) l;
     numbers = rw (w .nonces) (below-more n (s .nonces) h b);
   };
   ended = w .ended;
-  made-in = q ∙ sym (w .passed .form);
+  made-in = q ∙ sym (ap (λ (x : Firmware). x .form) (w .passed .firmware));
 }
 
-module _ (u : Setup) (form : Form) (ring fram : List ℕ) (b : blank ring ≡ true) (f : Fits u ring fram) (l : empty-length form ≤ half-length fram) where
+module _ (u : Setup) (firmware : Firmware) (ring fram : List ℕ) (b : blank ring ≡ true) (f : Fits u firmware ring fram) (l : empty-length (firmware .form) ≤ half-length fram) where
   abbrev start : State
-  start = fresh form ring fram
+  start = fresh firmware ring fram
 
   inv : Holds u start
-  inv = hold-fresh u form ring fram (f .ring-right) (f .fram-right) b
+  inv = hold-fresh u firmware ring fram (f .ring-right) (an-image (firmware .largest-fram) fram (f .fram-right)) b
 
   unused : List·Memᴰ (bytes nonce-length 0) (start .nonces) → ⊥
   unfolding fresh
   unused m = absurd (List·Memᴰ·not-nil m)
 
-  passes : first-save-stop (start .form) (start .ring) (start .fram) (numbered-first u 0) ≡ none
+  passes : first-save-stop (start .firmware) (start .ring) (start .fram) (numbered-first u firmware 0) ≡ none
   unfolding fresh
-  passes = first-passes u form ring fram b f l 0
+  passes = first-passes u firmware ring fram b f l 0
 
-  first-whole : Whole u start (first-checkpoint form (numbered-first u 0)) (bytes nonce-length 0) (to-its-end u start (first-saved (numbered-first u 0)))
+  first-whole : Whole u start (first-checkpoint (firmware .form) (numbered-first u firmware 0)) (bytes nonce-length 0) (to-its-end u start (first-saved (numbered-first u firmware 0)))
   unfolding drafted first-checkpoint Keeps fresh
   first-whole =
-      let a : FirstSave = numbered-first u 0 in
-      let c : Checkpoint = first-checkpoint form a in
+      let a : FirstSave = numbered-first u firmware 0 in
+      let c : Checkpoint = first-checkpoint (firmware .form) a in
       let is = first-step u start inv a unused passes in
-      whole u start (first-saved a) c Save (bytes nonce-length 0) (record { job = job-of (u .key) c (Words 0) Save 0 0 0; staging = put staging-room 0 (sealed (u .key) c) })
+      whole u start (first-saved a) c Save (bytes nonce-length 0) (record { job = job-of (u .key) c (Words 0) Save 0 0 0; staging = put (staging-room firmware) 0 (sealed (u .key) c) })
       (refl, refl, unused) (subst (λ (y : State). Holds u y) (sym is) (first-begun u start inv a unused passes))
-      (ap (λ (y : State). y .handed) is) (ap (λ (y : State). y .journal .draft) is) (ap (λ (y : State). y .journal .count) is) (ap (λ (y : State). y .nonces) is) (ap (λ (y : State). y .form) is) (ap (λ (y : State). y .fram) is)
+      (ap (λ (y : State). y .handed) is) (ap (λ (y : State). y .journal .draft) is) (ap (λ (y : State). y .journal .count) is) (ap (λ (y : State). y .nonces) is) (ap (λ (y : State). y .firmware) is) (ap (λ (y : State). y .fram) is)
 
-  first-after : After u (run u start (to-its-end u start (first-saved (numbered-first u 0)))) 1 0
+  first-after : After u (run u start (to-its-end u start (first-saved (numbered-first u firmware 0)))) 1 0
   unfolding fresh empty first-checkpoint
-  first-after = after-whole u start 0 (first-checkpoint form (numbered-first u 0)) (to-its-end u start (first-saved (numbered-first u 0)))
-      first-whole refl (λ m k. absurd (List·Memᴰ·not-nil k)) (lit< tt) (no-number form 0 refl) refl refl l refl
+  first-after = after-whole u start 0 (first-checkpoint (firmware .form) (numbered-first u firmware 0)) (to-its-end u start (first-saved (numbered-first u firmware 0)))
+      first-whole refl (λ m k. absurd (List·Memᴰ·not-nil k)) (lit< tt) (no-number (firmware .form) 0 refl) refl refl (f .fram-right) l refl
 
 -- a power-up
 module _ (u : Setup) (key-long : length (u .key) ≡ key-length) (s : State) (n k : ℕ) (x : Standing u s n k) (h : n < 2 ^ 96) where
   new-here : List·Memᴰ (bytes nonce-length n) (s .nonces) → ⊥
   new-here = below-new n (s .nonces) h (x .numbers)
 
-  last-here : Last u s (numbered-power-up u n)
+  last-here : Last u s (numbered-power-up u (s .firmware) n)
   last-here = record {
     sizes = refl;
     key = refl;
     nonce-long = length-bytes nonce-length n;
     nonce-new = new-here;
-    staging = room (s .fram) (x .holds .fram-right);
-    state = rw length-state (omega arith);
+    staging = room (s .firmware) (s .fram) (x .framed);
+    state = rw (length-state (s .firmware)) (omega arith);
   }
 
   module _ (few : k < restart-limit) where
     abbrev next : Checkpoint
-    next = power-up-draft (s .form) (u .key) (bytes nonce-length n) (x .c)
+    next = power-up-draft (s .firmware .form) (u .key) (bytes nonce-length n) (x .c)
 
     fewer : x .c .restarts ≡ restart-limit → ⊥
     fewer e = omega (arith, x .restarts)
 
-    fits : sealed-length (s .form) (length (x .c .open-part)) (length (x .c .secret)) ≤ half-length (s .fram)
+    fits : sealed-length (s .firmware .form) (length (x .c .open-part)) (length (x .c .secret)) ≤ half-length (s .fram)
     fits = rw (x .no-open, x .no-secret) (omega (arith, x .enough))
 
-    power-whole : Whole u s next (bytes nonce-length n) (to-its-end u s (powered-up (numbered-power-up u n)))
+    power-whole : Whole u s next (bytes nonce-length n) (to-its-end u s (powered-up (numbered-power-up u (s .firmware) n)))
     unfolding drafted power-up-draft Keeps
     power-whole =
-        let a : PowersUp = numbered-power-up u n in
+        let a : PowersUp = numbered-power-up u (s .firmware) n in
         let holds = x .holds in
         let r = x .entry in
-        let is = step-is u s holds a (x .c) r (stop-none u s holds a key-long last-here (x .c) r fewer fits) in
-        whole u s (powered-up a) next PowerUp (bytes nonce-length n) (record { job = resuming-job u s next; staging = put staging-room 0 (sealed (u .key) next) })
+        let is = step-is u s holds a (x .c) r (stop-none u s holds a key-long (x .framed) last-here (x .c) r fewer fits) in
+        whole u s (powered-up a) next PowerUp (bytes nonce-length n) (record { job = resuming-job u s next; staging = put (staging-room (s .firmware)) 0 (sealed (u .key) next) })
         (refl, refl, new-here)
-        (subst (λ (y : State). Holds u y) (sym is) (resuming-holds u s holds a (x .c) r (last-here .nonce-long) (last-here .staging) new-here fewer fits))
+        (subst (λ (y : State). Holds u y) (sym is) (resuming-holds u s holds a (x .c) r (x .framed) (last-here .nonce-long) (last-here .staging) new-here fewer fits))
         (ap (λ (y : State). y .handed) is)
         (ap (λ (y : State). y .journal .draft) is
         ∙ (λ i. some (record { checkpoint = next; origin = PowerUp; power-ups = r .restarts-are i + 1; stores = stores-of (u .key) (u .sizes .slots) (s .journal) next })))
-        (ap (λ (y : State). y .journal .count) is) (ap (λ (y : State). y .nonces) is) (ap (λ (y : State). y .form) is) (ap (λ (y : State). y .fram) is)
+        (ap (λ (y : State). y .journal .count) is) (ap (λ (y : State). y .nonces) is) (ap (λ (y : State). y .firmware) is) (ap (λ (y : State). y .fram) is)
 
-    power-after : After u (run u s (to-its-end u s (powered-up (numbered-power-up u n)))) (suc n) (suc k)
+    power-after : After u (run u s (to-its-end u s (powered-up (numbered-power-up u (s .firmware) n)))) (suc n) (suc k)
     unfolding power-up-draft
     power-after =
         let e : x .c .restarts + 1 ≡ suc k = omega (arith, x .restarts) in
-        subst (λ (m : ℕ). After u (run u s (to-its-end u s (powered-up (numbered-power-up u n)))) (suc n) m) e
-        (after-whole u s n next (to-its-end u s (powered-up (numbered-power-up u n))) power-whole (x .count) (x .numbers) h (x .no-packet) (x .no-open) (x .no-secret) (x .enough) refl)
+        subst (λ (m : ℕ). After u (run u s (to-its-end u s (powered-up (numbered-power-up u (s .firmware) n)))) (suc n) m) e
+        (after-whole u s n next (to-its-end u s (powered-up (numbered-power-up u (s .firmware) n))) power-whole (x .count) (x .numbers) h (x .no-packet) (x .no-open) (x .no-secret) (x .framed) (x .enough) refl)
 
 -- ---- a save with the session handed out last
 
@@ -239,7 +246,7 @@ module _ (u : Setup) (key-long : length (u .key) ≡ key-length) (s : State) (n 
   session-here = session-in u (s .journal .count) (x .standing .c)
 
   abbrev call-here : Saves
-  call-here = numbered-save u n p session-here
+  call-here = numbered-save u (s .firmware) n p session-here
 
   mine : List·Memᴰ session-here (s .sessions)
   mine = rw (x .ended .session) (List·Memᴰ·head refl)
@@ -249,28 +256,28 @@ module _ (u : Setup) (key-long : length (u .key) ≡ key-length) (s : State) (n 
   not-stale = found-newest (s .ring) (u .sizes .pages) (u .sizes .slots) (s .journal .count) (s .journal .owed) (record-of (x .standing .c .nonce) (half-of (s .journal .count)))
       (x .ended .owed) (record-found (x .standing .holds .fram-right) (x .standing .entry))
 
-  save-passes : save-stop (s .form) (s .ring) (s .fram) call-here ≡ none
+  save-passes : save-stop (s .firmware) (s .ring) (s .fram) call-here ≡ none
   unfolding save-stop first-of
   save-passes =
       let inv = x .standing .holds in
       let r = x .standing .entry in
       rw (
         inv .ring-right,
-        inv .fram-right,
+        x .standing .framed,
         sizes-pass u key-long n,
-        parts-pass (s .form) (s .fram) (inv .fram-right) (x .standing .enough),
-        packet-passes (s .form) p few-bits,
+        parts-pass (s .firmware) (s .fram) (x .standing .framed) (x .standing .enough),
+        packet-passes (s .firmware .form) p few-bits,
         reads (inv .fram-right) r,
         not-blank (s .journal .owed) (u .sizes .pages) (u .sizes .slots) (s .journal .count),
         not-unreadable (s .journal .owed) (u .sizes .pages) (u .sizes .slots) (s .journal .count),
         not-stale,
-        session-passes (s .form) session-here (x .standing .entry .good .range .restarts-small) (packet-small (x .standing .c .form) (x .standing .c .packet) (x .standing .entry .good .range .packet-small)),
+        session-passes (s .firmware .form) session-here (x .standing .entry .good .range .restarts-small) (packet-small (x .standing .c .form) (x .standing .c .packet) (x .standing .entry .good .range .packet-small)),
         pending-is (s .journal .owed) (u .sizes .pages) (u .sizes .slots) (s .journal .count) ∙ x .ended .owed,
         new-nonce (inv .fram-right) r (bytes nonce-length n) (new-here u key-long s n k (x .standing) h),
       )
 
   abbrev kept : Checkpoint
-  kept = save-checkpoint (s .form) call-here
+  kept = save-checkpoint (s .firmware .form) call-here
 
   save-whole : Whole u s kept (bytes nonce-length n) (to-its-end u s (saved call-here))
   unfolding drafted save-checkpoint Keeps
@@ -278,23 +285,23 @@ module _ (u : Setup) (key-long : length (u .key) ≡ key-length) (s : State) (n 
       let new = new-here u key-long s n k (x .standing) h in
       let is = save-step u s (x .standing .holds) call-here new mine save-passes in
       whole u s (saved call-here) kept Save (bytes nonce-length n)
-      (record { job = saving-job u s (x .standing .holds) call-here new mine; staging = put staging-room 0 (sealed (u .key) kept) })
+      (record { job = saving-job u s (x .standing .holds) call-here new mine; staging = put (staging-room (s .firmware)) 0 (sealed (u .key) kept) })
       (refl, refl, new, mine) (subst (λ (y : State). Holds u y) (sym is) (save-begun u s (x .standing .holds) call-here new mine save-passes))
-      (ap (λ (y : State). y .handed) is) (ap (λ (y : State). y .journal .draft) is) (ap (λ (y : State). y .journal .count) is) (ap (λ (y : State). y .nonces) is) (ap (λ (y : State). y .form) is) (ap (λ (y : State). y .fram) is)
+      (ap (λ (y : State). y .handed) is) (ap (λ (y : State). y .journal .draft) is) (ap (λ (y : State). y .journal .count) is) (ap (λ (y : State). y .nonces) is) (ap (λ (y : State). y .firmware) is) (ap (λ (y : State). y .fram) is)
 
   -- its restarts: with packet number 0 they carry over, and a save of the older form sets them to 0
   abbrev carried : ℕ
-  carried = save-restarts (s .form) p (x .standing .c .packet) (x .standing .c .restarts)
+  carried = save-restarts (s .firmware .form) p (x .standing .c .packet) (x .standing .c .restarts)
 
   module _ (unheard : p ≡ 0) where
     -- packet number 0 again
-    same-packet : written-number (s .form) (larger (x .standing .c .packet) p) ≡ 0
+    same-packet : written-number (s .firmware .form) (larger (x .standing .c .packet) p) ≡ 0
     unfolding larger
-    same-packet = no-number (s .form) _ (rw (le-ltb (x .standing .c .packet) p (omega arith)) (x .standing .no-packet))
+    same-packet = no-number (s .firmware .form) _ (rw (le-ltb (x .standing .c .packet) p (omega arith)) (x .standing .no-packet))
 
-    save-after : After u (run u s (to-its-end u s (saved call-here))) (suc n) (save-restarts (s .form) p (x .standing .c .packet) (x .standing .c .restarts))
+    save-after : After u (run u s (to-its-end u s (saved call-here))) (suc n) (save-restarts (s .firmware .form) p (x .standing .c .packet) (x .standing .c .restarts))
     unfolding save-checkpoint
-    save-after = after-whole u s n kept (to-its-end u s (saved call-here)) save-whole (x .standing .count) (x .standing .numbers) h same-packet refl refl (x .standing .enough) refl
+    save-after = after-whole u s n kept (to-its-end u s (saved call-here)) save-whole (x .standing .count) (x .standing .numbers) h same-packet refl refl (x .standing .framed) (x .standing .enough) refl
 
   -- the power fails in its erase after, and leaves a page that is not blank
   module _ (left : List ℕ) (opens : ltb 0 (s .journal .count) && eqb (s .journal .count % u .sizes .slots) 0 ≡ true)
@@ -305,12 +312,12 @@ module _ (u : Setup) (key-long : length (u .key) ≡ key-length) (s : State) (n 
         let new = new-here u key-long s n k (x .standing) h in
         let is = save-step u s (x .standing .holds) call-here new mine save-passes in
         lost-in-erase u s (saved call-here) kept Save (bytes nonce-length n)
-        (record { job = saving-job u s (x .standing .holds) call-here new mine; staging = put staging-room 0 (sealed (u .key) kept) }) left
+        (record { job = saving-job u s (x .standing .holds) call-here new mine; staging = put (staging-room (s .firmware)) 0 (sealed (u .key) kept) }) left
         (refl, refl, new, mine) (subst (λ (y : State). Holds u y) (sym is) (save-begun u s (x .standing .holds) call-here new mine save-passes))
-        (ap (λ (y : State). y .handed) is) (ap (λ (y : State). y .journal .draft) is) (ap (λ (y : State). y .journal .count) is) (ap (λ (y : State). y .nonces) is) (ap (λ (y : State). y .form) is) (ap (λ (y : State). y .fram) is)
+        (ap (λ (y : State). y .handed) is) (ap (λ (y : State). y .journal .draft) is) (ap (λ (y : State). y .journal .count) is) (ap (λ (y : State). y .nonces) is) (ap (λ (y : State). y .firmware) is) (ap (λ (y : State). y .fram) is)
         opens long used
 
-    standing-lost : p ≡ 0 → Standing u (run u s (but-the-last u s (saved call-here) left)) (suc n) (save-restarts (s .form) p (x .standing .c .packet) (x .standing .c .restarts))
+    standing-lost : p ≡ 0 → Standing u (run u s (but-the-last u s (saved call-here) left)) (suc n) (save-restarts (s .firmware .form) p (x .standing .c .packet) (x .standing .c .restarts))
     unfolding save-checkpoint
     standing-lost unheard =
         let o = save-lost .1 in
@@ -323,7 +330,8 @@ module _ (u : Setup) (key-long : length (u .key) ≡ key-length) (s : State) (n 
           no-packet = same-packet unheard;
           no-open = refl;
           no-secret = refl;
-          enough = rw (o .form, half-kept (s .fram) (run u s (but-the-last u s (saved call-here) left) .fram) (o .fram-long)) (x .standing .enough);
+          framed = rw (o .firmware) (fram-kept (s .firmware .largest-fram) (s .fram) (run u s (but-the-last u s (saved call-here) left) .fram) (o .fram-long) (x .standing .framed));
+          enough = rw (o .firmware, half-kept (s .fram) (run u s (but-the-last u s (saved call-here) left) .fram) (o .fram-long)) (x .standing .enough);
           numbers = rw (o .nonces) (below-more n (s .nonces) h (x .standing .numbers));
         }
 
@@ -344,9 +352,9 @@ module _ (u : Setup) (key-long : length (u .key) ≡ key-length) where
   power-ups-row : (i n k : ℕ) (s : State) → After u s i k → k + n ≤ restart-limit → i + n < 2 ^ 96 → Row u s (power-ups-on u i n s) (i + n) (k + n)
   unfolding power-ups-on run Allowed
   power-ups-row i zero k s x few h =
-      record { passed = record { allowed = tt; form = refl; fram-long = refl }; after = subst₂ (λ (a b : ℕ). After u s a b) (sym (add-zero i)) (sym (add-zero k)) x }
+      record { passed = record { allowed = tt; firmware = refl; fram-long = refl }; after = subst₂ (λ (a b : ℕ). After u s a b) (sym (add-zero i)) (sym (add-zero k)) x }
   power-ups-row i (suc n) k s x few h =
-      let events = to-its-end u s (powered-up (numbered-power-up u i)) in
+      let events = to-its-end u s (powered-up (numbered-power-up u (s .firmware) i)) in
       let l : i < 2 ^ 96 = omega arith in
       let m : suc i + n < 2 ^ 96 = omega arith in
       let c : k < restart-limit = omega arith in
@@ -358,16 +366,16 @@ module _ (u : Setup) (key-long : length (u .key) ≡ key-length) where
 
   saves-row : (i n : ℕ) (s : State) → (k : ℕ) → After u s i k → (k ≡ 0) → i + n < 2 ^ 96 → Row u s (saves-on u i n s) (i + n) 0
   unfolding saves-on with-session run Allowed
-  saves-row i zero s k x o h = record { passed = record { allowed = tt; form = refl; fram-long = refl }; after = subst₂ (λ (a b : ℕ). After u s a b) (sym (add-zero i)) o x }
+  saves-row i zero s k x o h = record { passed = record { allowed = tt; firmware = refl; fram-long = refl }; after = subst₂ (λ (a b : ℕ). After u s a b) (sym (add-zero i)) o x }
   saves-row i (suc n) s k x o h =
       let l : i < 2 ^ 96 = omega arith in
       let m : suc i + n < 2 ^ 96 = omega arith in
       let events = to-its-end u s (saved (call-here u key-long s i k x l 0 (lit≤ tt))) in
       let more = saves-row (suc i) n (run u s events) (carried u key-long s i k x l 0 (lit≤ tt)) (save-after u key-long s i k x l 0 (lit≤ tt) refl)
-      (carries-zero (s .form) (x .standing .c .packet) (x .standing .c .restarts) (x .standing .restarts ∙ o)) m in
+      (carries-zero (s .firmware .form) (x .standing .c .packet) (x .standing .c .restarts) (x .standing .restarts ∙ o)) m in
       let e : suc i + n ≡ i + suc n = omega arith in
       let is : saves-on u i (suc n) s ≡ events ++ saves-on u (suc i) n (run u s events) =
-      ap (λ (zs : List Session). with-session zs (λ z. to-its-end u s (saved (numbered-save u i 0 z)) ++ saves-on u (suc i) n (run u s (to-its-end u s (saved (numbered-save u i 0 z))))))
+      ap (λ (zs : List Session). with-session zs (λ z. to-its-end u s (saved (numbered-save u (s .firmware) i 0 z)) ++ saves-on u (suc i) n (run u s (to-its-end u s (saved (numbered-save u (s .firmware) i 0 z))))))
       (x .ended .session) in
       subst (λ (l : List Event). Row u s l (i + suc n) 0) (sym is)
       (row-more u s events (saves-on u (suc i) n (run u s events)) (i + suc n) 0 (save-whole u key-long s i k x l 0 (lit≤ tt) .passed)
@@ -378,23 +386,23 @@ found-at pages slots count n true o e = no-fact o
 found-at pages slots count n false o e = let m : count - 1 ≡ n = omega arith in ap (λ (x : ℕ). At (x / slots % pages) (x % slots)) m
 
 -- a first save, then n saves, then k power-ups
-history-row : (u : Setup) (form : Form) (ring fram : List ℕ) → blank ring ≡ true → Fits u ring fram → empty-length form ≤ half-length fram → (n k : ℕ) → k ≤ restart-limit → n + k + 1 < 2 ^ 96
-    → Row u (fresh form ring fram) (history u (fresh form ring fram) n k) (n + 1 + k) k
-unfolding history
-history-row u form ring fram b f l n k few h =
-    row-more u s first _ (n + 1 + k) k (first-whole u form ring fram b f l .passed) (row-more u (run u s first) saves _ (n + 1 + k) k (rs .passed) rp)
+history-row : (u : Setup) (firmware : Firmware) (ring fram : List ℕ) → blank ring ≡ true → Fits u firmware ring fram → empty-length (firmware .form) ≤ half-length fram → (n k : ℕ) → k ≤ restart-limit → n + k + 1 < 2 ^ 96
+    → Row u (fresh firmware ring fram) (history u (fresh firmware ring fram) n k) (n + 1 + k) k
+unfolding history fresh
+history-row u firmware ring fram b f l n k few h =
+    row-more u s first _ (n + 1 + k) k (first-whole u firmware ring fram b f l .passed) (row-more u (run u s first) saves _ (n + 1 + k) k (rs .passed) rp)
   where
     s : State
-    s = fresh form ring fram
+    s = fresh firmware ring fram
 
     first : List Event
-    first = to-its-end u s (first-saved (numbered-first u 0))
+    first = to-its-end u s (first-saved (numbered-first u firmware 0))
 
     saves : List Event
     saves = saves-on u 1 n (run u s first)
 
     rs : Row u (run u s first) saves (1 + n) 0
-    rs = saves-row u (f .key-right) 1 n (run u s first) 0 (first-after u form ring fram b f l) refl (omega arith)
+    rs = saves-row u (f .key-right) 1 n (run u s first) 0 (first-after u firmware ring fram b f l) refl (omega arith)
 
     rp : Row u (run u (run u s first) saves) (power-ups-on u (n + 1) k (run u (run u s first) saves)) (n + 1 + k) k
     rp =
@@ -412,9 +420,9 @@ newest-found u s n m k x e = reads (x .standing .holds .fram-right) (x .standing
 
 pub reachable : Reachable
 unfolding Reachable
-reachable u form ring fram b f l n k few h =
-    let r = history-row u form ring fram b f l n k few h in
-    let t = run u (fresh form ring fram) (history u (fresh form ring fram) n k) in
+reachable u firmware ring fram b f l n k few h =
+    let r = history-row u firmware ring fram b f l n k few h in
+    let t = run u (fresh firmware ring fram) (history u (fresh firmware ring fram) n k) in
     record {
       allowed = r .passed .allowed;
       count = omega (arith, r .after .standing .count);
@@ -429,7 +437,11 @@ unfolding save-restarts
 carries-over Older packet restarts k f e = absurd (let z : _≡_ {A = ℕ} 0 1 = cc in omega arith)
 carries-over Longer packet restarts k f e = rw (le-ltb packet 0 (omega arith)) e
 
--- one save with packet number 0, of the firmware of the longer form
+-- firmware that stays keeps its form
+formed : {x y : Firmware} → x ≡ y → x .form ≡ y .form
+formed e = ap (λ (f : Firmware). f .form) e
+
+-- one save with packet number 0, of firmware of the longer form
 module _ (u : Setup) (key-long : length (u .key) ≡ key-length) (s : State) (i k : ℕ) (x : After u s i k) (h : i < 2 ^ 96) where
   abbrev one-save : List Event
   one-save = to-its-end u s (saved (call-here u key-long s i k x h 0 (lit≤ tt)))
@@ -437,38 +449,38 @@ module _ (u : Setup) (key-long : length (u .key) ≡ key-length) (s : State) (i 
   one-save-is : saves-on u i 1 s ≡ one-save
   unfolding saves-on with-session
   one-save-is =
-      ap (λ (zs : List Session). with-session zs (λ z. to-its-end u s (saved (numbered-save u i 0 z)) ++ saves-on u (suc i) 0 (run u s (to-its-end u s (saved (numbered-save u i 0 z))))))
+      ap (λ (zs : List Session). with-session zs (λ z. to-its-end u s (saved (numbered-save u (s .firmware) i 0 z)) ++ saves-on u (suc i) 0 (run u s (to-its-end u s (saved (numbered-save u (s .firmware) i 0 z))))))
       (x .ended .session) ∙ append-nil one-save
 
-  one-save-after : s .form ≡ Longer → After u (run u s one-save) (suc i) k
+  one-save-after : s .firmware .form ≡ Longer → After u (run u s one-save) (suc i) k
   one-save-after f =
-      subst (λ (r : ℕ). After u (run u s one-save) (suc i) r) (carries-over (s .form) (x .standing .c .packet) (x .standing .c .restarts) k f (x .standing .restarts))
+      subst (λ (r : ℕ). After u (run u s one-save) (suc i) r) (carries-over (s .firmware .form) (x .standing .c .packet) (x .standing .c .restarts) k f (x .standing .restarts))
       (save-after u key-long s i k x h 0 (lit≤ tt) refl)
 
 module _ (u : Setup) (key-long : length (u .key) ≡ key-length) where
   -- a power-up and a save
-  repeat-once : (i k : ℕ) (s : State) → s .form ≡ Longer → After u s i k → k < restart-limit → suc i < 2 ^ 96
+  repeat-once : (i k : ℕ) (s : State) → s .firmware .form ≡ Longer → After u s i k → k < restart-limit → suc i < 2 ^ 96
       → (rest : (t : State) → List Event) → (n m : ℕ)
-      → ((t : State) → t .form ≡ Longer → After u t (suc (suc i)) (suc k) → Row u t (rest t) n m)
-      → Row u s (let up = to-its-end u s (powered-up (numbered-power-up u i)) in let t = run u s up in let again = saves-on u (suc i) 1 t in up ++ (again ++ rest (run u t again))) n m
+      → ((t : State) → t .firmware .form ≡ Longer → After u t (suc (suc i)) (suc k) → Row u t (rest t) n m)
+      → Row u s (let up = to-its-end u s (powered-up (numbered-power-up u (s .firmware) i)) in let t = run u s up in let again = saves-on u (suc i) 1 t in up ++ (again ++ rest (run u t again))) n m
   repeat-once i k s f x few h rest n m more =
       let l : i < 2 ^ 96 = omega arith in
-      let up = to-its-end u s (powered-up (numbered-power-up u i)) in
+      let up = to-its-end u s (powered-up (numbered-power-up u (s .firmware) i)) in
       let t = run u s up in
       let w = power-whole u key-long s i k (x .standing) l few in
       let a = power-after u key-long s i k (x .standing) l few in
-      let g : t .form ≡ Longer = w .passed .form ∙ f in
+      let g : t .firmware .form ≡ Longer = formed (w .passed .firmware) ∙ f in
       let one = one-save u key-long t (suc i) (suc k) a h in
       let v = save-whole u key-long t (suc i) (suc k) a h 0 (lit≤ tt) in
       row-more u s up (saves-on u (suc i) 1 t ++ rest (run u t (saves-on u (suc i) 1 t))) n m (w .passed)
       (subst (λ (events : List Event). Row u t (events ++ rest (run u t events)) n m) (sym (one-save-is u key-long t (suc i) (suc k) a h))
-      (row-more u t one (rest (run u t one)) n m (v .passed) (more (run u t one) (v .passed .form ∙ g) (one-save-after u key-long t (suc i) (suc k) a h g))))
+      (row-more u t one (rest (run u t one)) n m (v .passed) (more (run u t one) (formed (v .passed .firmware) ∙ g) (one-save-after u key-long t (suc i) (suc k) a h g))))
 
-  repeats-row : (i n k : ℕ) (s : State) → s .form ≡ Longer → After u s i k → k + n ≤ restart-limit → i + 2 * n < 2 ^ 96 → Row u s (repeats-on u i n s) (i + 2 * n) (k + n)
+  repeats-row : (i n k : ℕ) (s : State) → s .firmware .form ≡ Longer → After u s i k → k + n ≤ restart-limit → i + 2 * n < 2 ^ 96 → Row u s (repeats-on u i n s) (i + 2 * n) (k + n)
   unfolding repeats-on run Allowed
   repeats-row i zero k s f x few h =
       let e : i ≡ i + 2 * 0 = omega arith in
-      record { passed = record { allowed = tt; form = refl; fram-long = refl }; after = subst₂ (λ (a b : ℕ). After u s a b) e (sym (add-zero k)) x }
+      record { passed = record { allowed = tt; firmware = refl; fram-long = refl }; after = subst₂ (λ (a b : ℕ). After u s a b) e (sym (add-zero k)) x }
   repeats-row i (suc n) k s f x few h =
       let e : suc (suc i) + 2 * n ≡ i + 2 * suc n = omega arith in
       let e′ : suc k + n ≡ k + suc n = omega arith in
@@ -476,22 +488,23 @@ module _ (u : Setup) (key-long : length (u .key) ≡ key-length) where
       (λ t g y. subst₂ (λ (a b : ℕ). Row u t (repeats-on u (suc (suc i)) n t) a b) e e′ (repeats-row (suc (suc i)) n (suc k) t g y (omega arith) (omega arith)))
 
 -- after the first save
-module _ (u : Setup) (form : Form) (ring fram : List ℕ) (b : blank ring ≡ true) (f : Fits u ring fram) (l : empty-length form ≤ half-length fram) where
+module _ (u : Setup) (firmware : Firmware) (ring fram : List ℕ) (b : blank ring ≡ true) (f : Fits u firmware ring fram) (l : empty-length (firmware .form) ≤ half-length fram) where
   abbrev saved-once : State
-  saved-once = run u (fresh form ring fram) (to-its-end u (fresh form ring fram) (first-saved (numbered-first u 0)))
+  saved-once = run u (fresh firmware ring fram) (to-its-end u (fresh firmware ring fram) (first-saved (numbered-first u firmware 0)))
 
-  form-kept : saved-once .form ≡ form
+  form-kept : saved-once .firmware .form ≡ firmware .form
   unfolding fresh
-  form-kept = first-whole u form ring fram b f l .passed .form
+  form-kept = formed (first-whole u firmware ring fram b f l .passed .firmware)
 
 pub stale-repeats : StaleRepeats
-unfolding StaleRepeats repeats
-stale-repeats u ring fram b f l k few =
-    let s = fresh Longer ring fram in
-    let first = to-its-end u s (first-saved (numbered-first u 0)) in
+unfolding StaleRepeats repeats fresh
+stale-repeats u firmware longer ring fram b f enough k few =
+    let s = fresh firmware ring fram in
+    let first = to-its-end u s (first-saved (numbered-first u firmware 0)) in
+    let l : empty-length (firmware .form) ≤ half-length fram = rw longer enough in
     let o : 0 + k ≡ k = omega arith in
-    let row = repeats-row u (f .key-right) 1 k 0 (run u s first) (form-kept u Longer ring fram b f l) (first-after u Longer ring fram b f l) (omega arith) (omega arith) in
-    let r = row-more u s first (repeats-on u 1 k (run u s first)) (1 + 2 * k) (0 + k) (first-whole u Longer ring fram b f l .passed) row in
+    let row = repeats-row u (f .key-right) 1 k 0 (run u s first) (form-kept u firmware ring fram b f l ∙ longer) (first-after u firmware ring fram b f l) (omega arith) (omega arith) in
+    let r = row-more u s first (repeats-on u 1 k (run u s first)) (1 + 2 * k) (0 + k) (first-whole u firmware ring fram b f l .passed) row in
     (r .passed .allowed, r .after .standing .entry .restarts-are ∙ r .after .standing .restarts ∙ o, omega (arith, r .after .standing .count))
 
 -- ---- a newer packet
@@ -501,8 +514,8 @@ one-heard : (packet restarts : ℕ) → packet ≡ 0 → (save-restarts Longer 1
 unfolding save-restarts written-number larger
 one-heard packet restarts e = rw e (refl, refl)
 
--- a save of the firmware of the longer form that has heard packet 1
-module _ (u : Setup) (key-long : length (u .key) ≡ key-length) (s : State) (n k : ℕ) (x : After u s n k) (h : n < 2 ^ 96) (f : s .form ≡ Longer) where
+-- a save of firmware of the longer form that has heard packet 1
+module _ (u : Setup) (key-long : length (u .key) ≡ key-length) (s : State) (n k : ℕ) (x : After u s n k) (h : n < 2 ^ 96) (f : s .firmware .form ≡ Longer) where
   abbrev hears : List Event
   hears = to-its-end u s (saved (call-here u key-long s n k x h 1 (lit≤ tt)))
 
@@ -518,21 +531,21 @@ module _ (u : Setup) (key-long : length (u .key) ≡ key-length) (s : State) (n 
       let e = recorded-entry u (run u s hears) c (w .holds) (w .ended .entry) in
       (w .passed .allowed, e .restarts-are ∙ r, c, w .ended .entry, r, p)
 
-fresh-form : (form : Form) (ring fram : List ℕ) → fresh form ring fram .form ≡ form
+fresh-form : (firmware : Firmware) (ring fram : List ℕ) → fresh firmware ring fram .firmware .form ≡ firmware .form
 unfolding fresh
-fresh-form form ring fram = refl
+fresh-form firmware ring fram = refl
 
 pub newer-packet : NewerPacket
 unfolding NewerPacket newer with-session
-newer-packet u ring fram b f l k few =
+newer-packet u firmware longer ring fram b f enough k few =
     subst (λ (events : List Event). Allowed u s events × (run u s events .journal .power-ups ≡ 0)
     × (c : Checkpoint) × (run u s events .journal .entry ≡ some c) × (c .restarts ≡ 0) × (c .packet ≡ 1)) (sym is) all
   where
     s : State
-    s = fresh Longer ring fram
+    s = fresh firmware ring fram
 
     row : Row u s (history u s 0 k) (0 + 1 + k) k
-    row = history-row u Longer ring fram b f l 0 k few (omega arith)
+    row = history-row u firmware ring fram b f (rw longer enough) 0 k few (omega arith)
 
     t : State
     t = run u s (history u s 0 k)
@@ -544,13 +557,13 @@ newer-packet u ring fram b f l k few =
     small = omega arith
 
     more : List Event
-    more = hears u (f .key-right) t (k + 1) k x small (row .passed .form ∙ fresh-form Longer ring fram)
+    more = hears u (f .key-right) t (k + 1) k x small (formed (row .passed .firmware) ∙ fresh-form firmware ring fram ∙ longer)
 
     is : newer u s k ≡ history u s 0 k ++ more
-    is = ap (λ (zs : List Session). history u s 0 k ++ with-session zs (λ z. to-its-end u t (saved (numbered-save u (k + 1) 1 z)))) (x .ended .session)
+    is = ap (λ (zs : List Session). history u s 0 k ++ with-session zs (λ z. to-its-end u t (saved (numbered-save u (t .firmware) (k + 1) 1 z)))) (x .ended .session)
 
     end : (Allowed u t more) × (run u t more .journal .power-ups ≡ 0) × (c : Checkpoint) × (run u t more .journal .entry ≡ some c) × (c .restarts ≡ 0) × (c .packet ≡ 1)
-    end = heard u (f .key-right) t (k + 1) k x small (row .passed .form ∙ fresh-form Longer ring fram)
+    end = heard u (f .key-right) t (k + 1) k x small (formed (row .passed .firmware) ∙ fresh-form firmware ring fram ∙ longer)
 
     after-all : run u s (history u s 0 k ++ more) ≡ run u t more
     after-all = run-append u (history u s 0 k) more s
@@ -568,65 +581,74 @@ newer-packet u ring fram b f l k few =
 
 -- ---- an update
 
--- what stands before it stands after it, where halves have room for the longer form
-updated-standing : (u : Setup) (s : State) (n k : ℕ) → Standing u s n k → empty-length Longer ≤ half-length (s .fram) → Standing u (step u s Updated) n k
+-- what stands before it stands after it, where the next firmware takes the FRAM and halves have room for its form
+updated-standing : (u : Setup) (s : State) (next : Firmware) (n k : ℕ) → Standing u s n k → Succeeds (s .firmware) next
+    → fram-wrong (next .largest-fram) (s .fram) ≡ false → empty-length (next .form) ≤ half-length (s .fram) → Standing u (step u s (updated-to next)) n k
 unfolding step left-by entered dropped
-updated-standing u s n k x l = record {
+updated-standing u s next n k x g fr l = record {
   c = x .c;
-  holds = hold-updated u s (x .holds);
+  holds = hold-updated u s (x .holds) next g;
   entry = x .entry;
   count = x .count;
   restarts = x .restarts;
   no-packet = x .no-packet;
   no-open = x .no-open;
   no-secret = x .no-secret;
+  framed = fr;
   enough = l;
   numbers = x .numbers;
 }
 
-run-updated : (u : Setup) (xs ys : List Event) (s : State) → run u s (xs ++ Updated ∷ ys) ≡ run u (step u (run u s xs) Updated) ys
+run-updated : (u : Setup) (next : Firmware) (xs ys : List Event) (s : State) → run u s (xs ++ updated-to next ∷ ys) ≡ run u (step u (run u s xs) (updated-to next)) ys
 unfolding run
-run-updated u xs ys s = run-append u xs (Updated ∷ ys) s
+run-updated u next xs ys s = run-append u xs (updated-to next ∷ ys) s
 
-allowed-updated : (u : Setup) (xs ys : List Event) (s : State) → Allowed u s xs → Allowed u (step u (run u s xs) Updated) ys → Allowed u s (xs ++ Updated ∷ ys)
+allowed-updated : (u : Setup) (next : Firmware) (xs ys : List Event) (s : State) → Allowed u s xs → Succeeds (run u s xs .firmware) next
+    → Allowed u (step u (run u s xs) (updated-to next)) ys → Allowed u s (xs ++ updated-to next ∷ ys)
 unfolding Allowed Keeps
-allowed-updated u xs ys s a b = allowed-append u xs (Updated ∷ ys) s a (inr tt, b)
+allowed-updated u next xs ys s a g b = allowed-append u xs (updated-to next ∷ ys) s a (inr g, b)
 
 no-events : (u : Setup) (s : State) → Allowed u s [] × (run u s [] ≡ s)
 unfolding Allowed run
 no-events u s = (tt, refl)
 
-updated-form : (u : Setup) (s : State) → step u s Updated .form ≡ Longer
+updated-firmware : (u : Setup) (s : State) (next : Firmware) → step u s (updated-to next) .firmware ≡ next
 unfolding step left-by
-updated-form u s = refl
+updated-firmware u s next = refl
 
 pub updates : Updates
 unfolding Updates updating power-ups-on fresh
-updates u ring fram b f l m k few = (allowed, counted, after .standing .c, after .standing .entry .entry-is, after .made-in ∙ longer)
+updates u firmware next g ring fram b f f′ l l′ m k few = (allowed, counted, after .standing .c, after .standing .entry .entry-is, after .made-in ∙ formed now)
   where
     s : State
-    s = fresh Older ring fram
+    s = fresh firmware ring fram
 
     older : List Event
     older = history u s 0 m
 
     row : Row u s older (0 + 1 + m) m
-    row = history-row u Older ring fram b f (omega (arith, l)) 0 m (omega arith) (omega arith)
+    row = history-row u firmware ring fram b f l 0 m (omega arith) (omega arith)
 
     t : State
-    t = step u (run u s older) Updated
+    t = step u (run u s older) (updated-to next)
 
     one : ℕ
     one = 0 + 1 + m
 
     up : List Event
-    up = to-its-end u t (powered-up (numbered-power-up u (m + 1)))
+    up = to-its-end u t (powered-up (numbered-power-up u (t .firmware) (m + 1)))
 
-    enough : empty-length Longer ≤ half-length (run u s older .fram)
-    enough = rw (half-kept fram (run u s older .fram) (row .passed .fram-long)) l
+    enough : empty-length (next .form) ≤ half-length (run u s older .fram)
+    enough = rw (half-kept fram (run u s older .fram) (row .passed .fram-long)) l′
+
+    succeeds : Succeeds (run u s older .firmware) next
+    succeeds = rw (row .passed .firmware) g
+
+    framed : fram-wrong (next .largest-fram) (run u s older .fram) ≡ false
+    framed = fram-kept (next .largest-fram) fram (run u s older .fram) (row .passed .fram-long) (f′ .fram-right)
 
     stands : Standing u t (m + 1) m
-    stands = let e : 0 + 1 + m ≡ m + 1 = omega arith in subst (λ (n : ℕ). Standing u t n m) e (updated-standing u (run u s older) (0 + 1 + m) m (row .after .standing) enough)
+    stands = let e : 0 + 1 + m ≡ m + 1 = omega arith in subst (λ (n : ℕ). Standing u t n m) e (updated-standing u (run u s older) next (0 + 1 + m) m (row .after .standing) succeeds framed enough)
 
     first : After u (run u t up) (suc (m + 1)) (suc m)
     first = power-after u (f .key-right) t (m + 1) m stands (omega arith) (omega arith)
@@ -637,25 +659,33 @@ updates u ring fram b f l m k few = (allowed, counted, after .standing .c, after
     all : Row u t (power-ups-on u (m + 1) (suc k) t) (suc (m + 1) + k) (suc m + k)
     all = row-more u t up (power-ups-on u (suc (m + 1)) k (run u t up)) (suc (m + 1) + k) (suc m + k) (power-whole u (f .key-right) t (m + 1) m stands (omega arith) (omega arith) .passed) rest
 
-    is : run u s (updating u s m (suc k)) ≡ run u t (power-ups-on u (m + 1) (suc k) t)
-    is = run-updated u older (power-ups-on u (m + 1) (suc k) t) s
+    is : run u s (updating u s next m (suc k)) ≡ run u t (power-ups-on u (m + 1) (suc k) t)
+    is = run-updated u next older (power-ups-on u (m + 1) (suc k) t) s
 
-    allowed : Allowed u s (updating u s m (suc k))
-    allowed = allowed-updated u older (power-ups-on u (m + 1) (suc k) t) s (row .passed .allowed) (all .passed .allowed)
+    allowed : Allowed u s (updating u s next m (suc k))
+    allowed = allowed-updated u next older (power-ups-on u (m + 1) (suc k) t) s (row .passed .allowed) succeeds (all .passed .allowed)
 
-    after : After u (run u s (updating u s m (suc k))) (suc (m + 1) + k) (suc m + k)
+    after : After u (run u s (updating u s next m (suc k))) (suc (m + 1) + k) (suc m + k)
     after = subst (λ (y : State). After u y (suc (m + 1) + k) (suc m + k)) (sym is) (all .after)
 
-    counted : run u s (updating u s m (suc k)) .journal .power-ups ≡ m + k + 1
+    counted : run u s (updating u s next m (suc k)) .journal .power-ups ≡ m + k + 1
     counted = after .standing .entry .restarts-are ∙ after .standing .restarts ∙ omega arith
 
-    longer : run u s (updating u s m (suc k)) .form ≡ Longer
-    longer = ap (λ (y : State). y .form) is ∙ all .passed .form ∙ updated-form u (run u s older)
+    now : run u s (updating u s next m (suc k)) .firmware ≡ next
+    now = ap (λ (y : State). y .firmware) is ∙ all .passed .firmware ∙ updated-firmware u (run u s older) next
 
-smallest-fits : (room : Form) → Fits smallest (erased (slot-length * 6)) (bench-fram room)
+-- firmware that takes so small a FRAM
+abbrev Takes : Firmware → Form → Type 0
+Takes firmware room = 2 * empty-length room ≤ firmware .largest-fram
+
+smallest-fits : (firmware : Firmware) (room : Form) → Takes firmware room → Fits smallest firmware (erased (slot-length * 6)) (bench-fram room)
 unfolding smallest ring-wrong fram-wrong
-smallest-fits Older = record { ring-right = refl; fram-right = refl; key-right = refl }
-smallest-fits Longer = record { ring-right = refl; fram-right = refl; key-right = refl }
+smallest-fits firmware Older l = record { ring-right = refl; fram-right = rw (le-ltb (firmware .largest-fram) 88 (omega arith)); key-right = refl }
+smallest-fits firmware Longer l = record { ring-right = refl; fram-right = rw (le-ltb (firmware .largest-fram) 96 (omega arith)); key-right = refl }
+
+key-ok : length (smallest .key) ≡ key-length
+unfolding smallest
+key-ok = refl
 
 smallest-room : (form : Form) → empty-length form ≤ half-length (bench-fram form)
 unfolding half-length
@@ -671,23 +701,23 @@ older-room = lit≤ tt
 abbrev smallest-ring : List ℕ
 smallest-ring = erased (slot-length * 6)
 
-abbrev two : Form → Form → List Event
-two form room = history smallest (bench-state form room) 1 0
+abbrev two : Firmware → Form → List Event
+two firmware room = history smallest (bench-state firmware room) 1 0
 
 abbrev zeros : List ℕ
 zeros = replicate (slot-length * slots-least) 0
 
-module _ (form room : Form) (enough : empty-length form ≤ half-length (bench-fram room)) where
+module _ (firmware : Firmware) (room : Form) (takes : Takes firmware room) (enough : empty-length (firmware .form) ≤ half-length (bench-fram room)) where
   -- a first save and a save
-  two-row : Row smallest (bench-state form room) (two form room) 2 0
+  two-row : Row smallest (bench-state firmware room) (two firmware room) 2 0
   unfolding bench-state
-  two-row = history-row smallest form smallest-ring (bench-fram room) (blank-erased (slot-length * 6)) (smallest-fits room) enough 1 0 (lit≤ tt) (lit< tt)
+  two-row = history-row smallest firmware smallest-ring (bench-fram room) (blank-erased (slot-length * 6)) (smallest-fits firmware room takes) enough 1 0 (lit≤ tt) (lit< tt)
 
   abbrev resting : State
-  resting = run smallest (bench-state form room) (two form room)
+  resting = run smallest (bench-state firmware room) (two firmware room)
 
   abbrev third : Saves
-  third = call-here smallest (smallest-fits room .key-right) resting 2 0 (two-row .after) (lit< tt) 0 (lit≤ tt)
+  third = call-here smallest key-ok resting 2 0 (two-row .after) (lit< tt) 0 (lit≤ tt)
 
   abbrev losing : List Event
   losing = but-the-last smallest resting (saved third) zeros
@@ -705,27 +735,24 @@ module _ (form room : Form) (enough : empty-length form ≤ half-length (bench-f
   page-used = refl
 
   lost-there : Allowed smallest resting losing
-      × Owing smallest resting (run smallest resting losing) (kept smallest (smallest-fits room .key-right) resting 2 0 (two-row .after) (lit< tt) 0 (lit≤ tt)) (bytes nonce-length 2)
-  lost-there = save-lost smallest (smallest-fits room .key-right) resting 2 0 (two-row .after) (lit< tt) 0 (lit≤ tt) zeros page-opens page-long page-used
+      × Owing smallest resting (run smallest resting losing) (kept smallest key-ok resting 2 0 (two-row .after) (lit< tt) 0 (lit≤ tt)) (bytes nonce-length 2)
+  lost-there = save-lost smallest key-ok resting 2 0 (two-row .after) (lit< tt) 0 (lit≤ tt) zeros page-opens page-long page-used
 
   standing-there : Standing smallest (run smallest resting losing) 3 0
-  standing-there = subst (λ (k : ℕ). Standing smallest (run smallest resting losing) 3 k) (carries-zero (resting .form) (two-row .after .standing .c .packet) (two-row .after .standing .c .restarts) (two-row .after .standing .restarts))
-      (standing-lost smallest (smallest-fits room .key-right) resting 2 0 (two-row .after) (lit< tt) 0 (lit≤ tt) zeros page-opens page-long page-used refl)
+  standing-there = subst (λ (k : ℕ). Standing smallest (run smallest resting losing) 3 k) (carries-zero (resting .firmware .form) (two-row .after .standing .c .packet) (two-row .after .standing .c .restarts) (two-row .after .standing .restarts))
+      (standing-lost smallest key-ok resting 2 0 (two-row .after) (lit< tt) 0 (lit≤ tt) zeros page-opens page-long page-used refl)
 
-  interrupted-is : interrupted form room ≡ two form room ++ losing
+  interrupted-is : interrupted firmware room ≡ two firmware room ++ losing
   unfolding interrupted with-session
   interrupted-is =
-      ap (λ (zs : List Session). two form room ++ with-session zs (λ z. but-the-last smallest resting (saved (numbered-save smallest 2 0 z)) zeros)) (two-row .after .ended .session)
+      ap (λ (zs : List Session). two firmware room ++ with-session zs (λ z. but-the-last smallest resting (saved (numbered-save smallest (resting .firmware) 2 0 z)) zeros)) (two-row .after .ended .session)
 
-  lost-state : run smallest (bench-state form room) (interrupted form room) ≡ run smallest resting losing
-  lost-state = ap (λ (events : List Event). run smallest (bench-state form room) events) interrupted-is ∙ run-append smallest (two form room) losing (bench-state form room)
+  lost-state : run smallest (bench-state firmware room) (interrupted firmware room) ≡ run smallest resting losing
+  lost-state = ap (λ (events : List Event). run smallest (bench-state firmware room) events) interrupted-is ∙ run-append smallest (two firmware room) losing (bench-state firmware room)
 
-  interrupted-allowed : Allowed smallest (bench-state form room) (interrupted form room)
-  interrupted-allowed = subst (λ (events : List Event). Allowed smallest (bench-state form room) events) (sym interrupted-is)
-      (allowed-append smallest (two form room) losing (bench-state form room) (two-row .passed .allowed) (lost-there .0))
-
-key-ok : length (smallest .key) ≡ key-length
-key-ok = smallest-fits Longer .key-right
+  interrupted-allowed : Allowed smallest (bench-state firmware room) (interrupted firmware room)
+  interrupted-allowed = subst (λ (events : List Event). Allowed smallest (bench-state firmware room) events) (sym interrupted-is)
+      (allowed-append smallest (two firmware room) losing (bench-state firmware room) (two-row .passed .allowed) (lost-there .0))
 
 -- a state that stands so, with an erase owed
 module _ (s : State) (x : Standing smallest s 3 0) (o : s .journal .owed ≡ true) where
@@ -737,16 +764,16 @@ module _ (s : State) (x : Standing smallest s 3 0) (o : s .journal .owed ≡ tru
   unfolding smallest
   reads-pending = reads (x .holds .fram-right) (x .entry) ∙ found-pending
 
-  power-up-erases : power-up (s .form) (s .ring) (s .fram) (numbered-power-up smallest 3) .job .phase ≡ EraseFirst 0
+  power-up-erases : power-up (s .firmware) (s .ring) (s .fram) (numbered-power-up smallest (s .firmware) 3) .job .phase ≡ EraseFirst 0
   unfolding job-of first-phase
   power-up-erases =
       ap (λ (b : Begin). b .job .phase)
-      (power-up-begins smallest s (x .holds) (numbered-power-up smallest 3) key-ok (last-here smallest key-ok s 3 0 x (lit< tt)) (x .c) (x .entry)
+      (power-up-begins smallest s (x .holds) (numbered-power-up smallest (s .firmware) 3) key-ok (x .framed) (last-here smallest key-ok s 3 0 x (lit< tt)) (x .c) (x .entry)
       (fewer smallest key-ok s 3 0 x (lit< tt) (lit< tt)) (fits smallest key-ok s 3 0 x (lit< tt) (lit< tt)))
       ∙ ap first-phase found-pending
 
   abbrev resumes : List Event
-  resumes = to-its-end smallest s (powered-up (numbered-power-up smallest 3))
+  resumes = to-its-end smallest s (powered-up (numbered-power-up smallest (s .firmware) 3))
 
   resumes-allowed : Allowed smallest s resumes
   resumes-allowed = power-whole smallest key-ok s 3 0 x (lit< tt) (lit< tt) .passed .allowed
@@ -756,40 +783,43 @@ module _ (s : State) (x : Standing smallest s 3 0) (o : s .journal .owed ≡ tru
   resumes-newest = newest-found smallest (run smallest s resumes) 3 4 1 (power-after smallest key-ok s 3 0 x (lit< tt) (lit< tt)) refl
 
 -- after that loss
-module _ (form room : Form) (enough : empty-length form ≤ half-length (bench-fram room)) where
+module _ (firmware : Firmware) (room : Form) (takes : Takes firmware room) (enough : empty-length (firmware .form) ≤ half-length (bench-fram room)) where
   abbrev lost : State
-  lost = run smallest (bench-state form room) (interrupted form room)
+  lost = run smallest (bench-state firmware room) (interrupted firmware room)
 
   lost-standing : Standing smallest lost 3 0
-  lost-standing = subst (λ (t : State). Standing smallest t 3 0) (sym (lost-state form room enough)) (standing-there form room enough)
+  lost-standing = subst (λ (t : State). Standing smallest t 3 0) (sym (lost-state firmware room takes enough)) (standing-there firmware room takes enough)
 
   lost-owed : lost .journal .owed ≡ true
-  lost-owed = ap (λ (t : State). t .journal .owed) (lost-state form room enough) ∙ lost-there form room enough .1 .owed
+  lost-owed = ap (λ (t : State). t .journal .owed) (lost-state firmware room takes enough) ∙ lost-there firmware room takes enough .1 .owed
 
-  interrupted-example : Interrupted form room
+  interrupted-example : Interrupted firmware room
   interrupted-example = record {
     pending = reads-pending lost lost-standing lost-owed;
     erases-first = power-up-erases lost lost-standing lost-owed;
-    allowed = allowed-append smallest (interrupted form room) (resumes lost lost-standing lost-owed) (bench-state form room) (interrupted-allowed form room enough)
+    allowed = allowed-append smallest (interrupted firmware room) (resumes lost lost-standing lost-owed) (bench-state firmware room) (interrupted-allowed firmware room takes enough)
         (resumes-allowed lost lost-standing lost-owed);
-    newest = ap (λ (t : State). read-ring (t .ring) pages-least slots-least) (run-append smallest (interrupted form room) (resumes lost lost-standing lost-owed) (bench-state form room))
+    newest = ap (λ (t : State). read-ring (t .ring) pages-least slots-least) (run-append smallest (interrupted firmware room) (resumes lost lost-standing lost-owed) (bench-state firmware room))
         ∙ resumes-newest lost lost-standing lost-owed;
   }
 
 pub examples : Examples
 unfolding Examples bench-state Reachable
-examples form = (
-  reachable smallest form smallest-ring (bench-fram form) (blank-erased (slot-length * 6)) (smallest-fits form) (smallest-room form) 0 8 (lit≤ tt) (lit< tt),
-  reachable smallest form smallest-ring (bench-fram form) (blank-erased (slot-length * 6)) (smallest-fits form) (smallest-room form) 6 0 (lit≤ tt) (lit< tt),
-  interrupted-example form form (smallest-room form),
+examples firmware l = (
+  reachable smallest firmware smallest-ring (bench-fram form) (blank-erased (slot-length * 6)) (smallest-fits firmware form l) (smallest-room form) 0 8 (lit≤ tt) (lit< tt),
+  reachable smallest firmware smallest-ring (bench-fram form) (blank-erased (slot-length * 6)) (smallest-fits firmware form l) (smallest-room form) 6 0 (lit≤ tt) (lit< tt),
+  interrupted-example firmware form l (smallest-room form),
 )
+  where
+    form : Form
+    form = firmware .form
 
 -- ---- the same power loss, with an update
 
 -- from a state of the longer form that stands so: the power-up, and a save
-module _ (s : State) (x : Standing smallest s 3 0) (f : s .form ≡ Longer) where
+module _ (s : State) (x : Standing smallest s 3 0) (f : s .firmware .form ≡ Longer) where
   abbrev up : List Event
-  up = to-its-end smallest s (powered-up (numbered-power-up smallest 3))
+  up = to-its-end smallest s (powered-up (numbered-power-up smallest (s .firmware) 3))
 
   up-after : After smallest (run smallest s up) 4 1
   up-after = power-after smallest key-ok s 3 0 x (lit< tt) (lit< tt)
@@ -800,7 +830,7 @@ module _ (s : State) (x : Standing smallest s 3 0) (f : s .form ≡ Longer) wher
   up-and-save : Row smallest s (up ++ saves-on smallest 4 1 (run smallest s up)) 5 1
   up-and-save =
       let t = run smallest s up in
-      let g = up-passed .form ∙ f in
+      let g = formed (up-passed .firmware) ∙ f in
       row-more smallest s up (saves-on smallest 4 1 t) 5 1 up-passed
       (subst (λ (events : List Event). Row smallest t events 5 1) (sym (one-save-is smallest key-ok t 4 1 up-after (lit< tt)))
       (record {
@@ -812,39 +842,73 @@ fifth-place : (s : State) → After smallest s 5 1 → read-ring (s .ring) pages
 unfolding smallest
 fifth-place s x = newest-found smallest s 4 5 1 x refl
 
-updated-owed : (u : Setup) (s : State) → step u s Updated .journal .owed ≡ s .journal .owed
+updated-owed : (u : Setup) (s : State) (next : Firmware) → step u s (updated-to next) .journal .owed ≡ s .journal .owed
 unfolding step left-by entered dropped
-updated-owed u s = refl
+updated-owed u s next = refl
 
-lost-long : (form room : Form) (enough : empty-length form ≤ half-length (bench-fram room))
-    → length (run smallest (bench-state form room) (interrupted form room) .fram) ≡ length (bench-fram room)
+lost-long : (firmware : Firmware) (room : Form) (takes : Takes firmware room) (enough : empty-length (firmware .form) ≤ half-length (bench-fram room))
+    → length (run smallest (bench-state firmware room) (interrupted firmware room) .fram) ≡ length (bench-fram room)
 unfolding bench-state fresh
-lost-long form room enough =
-    ap (λ (t : State). length (t .fram)) (lost-state form room enough) ∙ lost-there form room enough .1 .fram-long ∙ two-row form room enough .passed .fram-long
+lost-long firmware room takes enough =
+    ap (λ (t : State). length (t .fram)) (lost-state firmware room takes enough) ∙ lost-there firmware room takes enough .1 .fram-long ∙ two-row firmware room takes enough .passed .fram-long
+
+-- document 01's firmware takes the FRAM of 96 bytes, and this one succeeds it
+first-takes : (room : Form) → Takes first-firmware room
+first-takes Older = lit≤ tt
+first-takes Longer = lit≤ tt
+
+succeeds-first : Succeeds first-firmware this-firmware
+succeeds-first = record { heads = tt; parts = lit≤ tt }
+
+fresh-firmware : (firmware : Firmware) (room : Form) → bench-state firmware room .firmware ≡ firmware
+unfolding bench-state fresh
+fresh-firmware firmware room = refl
+
+fresh-fram : (firmware : Firmware) (room : Form) → length (bench-state firmware room .fram) ≡ length (bench-fram room)
+unfolding bench-state fresh
+fresh-fram firmware room = refl
+
+lost-firmware : (firmware : Firmware) (room : Form) (takes : Takes firmware room) (enough : empty-length (firmware .form) ≤ half-length (bench-fram room))
+    → interrupted-unit firmware room .firmware ≡ firmware
+lost-firmware firmware room takes enough =
+    ap (λ (t : State). t .firmware) (lost-state firmware room takes enough) ∙ lost-there firmware room takes enough .1 .firmware ∙ two-row firmware room takes enough .passed .firmware
+    ∙ fresh-firmware firmware room
 
 pub updated-in-erase : UpdatedInErase
 updated-in-erase = record {
-  erases-first = power-up-erases t x (updated-owed smallest s ∙ lost-owed Older Longer older-room);
-  allowed = allowed-updated smallest (interrupted Older Longer) (up t x longer ++ saves-on smallest 4 1 (run smallest t (up t x longer))) (bench-state Older Longer)
-      (interrupted-allowed Older Longer older-room) (row .passed .allowed);
+  erases-first = power-up-erases t x (updated-owed smallest s this-firmware ∙ lost-owed first-firmware Longer takes older-room);
+  allowed = allowed-updated smallest this-firmware (interrupted first-firmware Longer) (up t x longer ++ saves-on smallest 4 1 (run smallest t (up t x longer))) (bench-state first-firmware Longer)
+      (interrupted-allowed first-firmware Longer takes older-room) succeeds (row .passed .allowed);
   newest = ap (λ (y : State). read-ring (y .ring) pages-least slots-least) is ∙ fifth-place (run smallest t events) (row .after);
   power-ups = ap (λ (y : State). y .journal .power-ups) is ∙ row .after .standing .entry .restarts-are ∙ row .after .standing .restarts;
 }
   where
+    takes : Takes first-firmware Longer
+    takes = first-takes Longer
+
     s : State
-    s = run smallest (bench-state Older Longer) (interrupted Older Longer)
+    s = interrupted-unit first-firmware Longer
 
     t : State
-    t = step smallest s Updated
+    t = step smallest s (updated-to this-firmware)
+
+    long : length (s .fram) ≡ length (bench-fram Longer)
+    long = lost-long first-firmware Longer takes older-room
 
     enough : empty-length Longer ≤ half-length (s .fram)
-    enough = rw (half-kept (bench-fram Longer) (s .fram) (lost-long Older Longer older-room)) (smallest-room Longer)
+    enough = rw (half-kept (bench-fram Longer) (s .fram) long) (smallest-room Longer)
+
+    succeeds : Succeeds (s .firmware) this-firmware
+    succeeds = rw (lost-firmware first-firmware Longer takes older-room) succeeds-first
+
+    framed : fram-wrong (this-firmware .largest-fram) (s .fram) ≡ false
+    framed = fram-kept (this-firmware .largest-fram) (bench-fram Longer) (s .fram) long (smallest-fits this-firmware Longer (lit≤ tt) .fram-right)
 
     x : Standing smallest t 3 0
-    x = updated-standing smallest s 3 0 (lost-standing Older Longer older-room) enough
+    x = updated-standing smallest s this-firmware 3 0 (lost-standing first-firmware Longer takes older-room) succeeds framed enough
 
-    longer : t .form ≡ Longer
-    longer = updated-form smallest s
+    longer : t .firmware .form ≡ Longer
+    longer = formed (updated-firmware smallest s this-firmware)
 
     events : List Event
     events = up t x longer ++ saves-on smallest 4 1 (run smallest t (up t x longer))
@@ -852,55 +916,60 @@ updated-in-erase = record {
     row : Row smallest t events 5 1
     row = up-and-save t x longer
 
-    is : run smallest (bench-state Older Longer) (interrupted Older Longer ++ Updated ∷ events) ≡ run smallest t events
-    is = run-updated smallest (interrupted Older Longer) events (bench-state Older Longer)
+    is : run smallest (bench-state first-firmware Longer) (interrupted first-firmware Longer ++ updated-to this-firmware ∷ events) ≡ run smallest t events
+    is = run-updated smallest this-firmware (interrupted first-firmware Longer) events (bench-state first-firmware Longer)
 
 -- ---- too small a FRAM for the longer form
 
-bench-row : (form : Form) → Row smallest (bench-state form form) (history smallest (bench-state form form) 0 0) 1 0
+-- document 01's firmware with 88 bytes, after its first save
+first-row : Row smallest (bench-state first-firmware Older) (history smallest (bench-state first-firmware Older) 0 0) 1 0
 unfolding bench-state
-bench-row form = history-row smallest form smallest-ring (bench-fram form) (blank-erased (slot-length * 6)) (smallest-fits form) (smallest-room form) 0 0 (lit≤ tt) (lit< tt)
+first-row = history-row smallest first-firmware smallest-ring (bench-fram Older) (blank-erased (slot-length * 6)) (smallest-fits first-firmware Older (first-takes Older)) (smallest-room Older) 0 0 (lit≤ tt) (lit< tt)
 
 -- a state whose FRAM has 88 bytes, after the update
-outgrown-at : (s : State) (n k : ℕ) → Standing smallest s n k → n < 2 ^ 96 → k < restart-limit → length (s .fram) ≡ length (bench-state Older Older .fram)
-    → power-up (step smallest s Updated .form) (step smallest s Updated .ring) (step smallest s Updated .fram) (numbered-power-up smallest n) .answer ≡ Stopped 4
-unfolding step left-by entered dropped bench-state fresh half-length
-outgrown-at s n k x h few long =
-    let t = step smallest s Updated in
-    let inv = hold-updated smallest s (x .holds) in
+outgrown-at : (s : State) (n k : ℕ) → Standing smallest s n k → Succeeds (s .firmware) this-firmware → n < 2 ^ 96 → k < restart-limit → length (s .fram) ≡ length (bench-fram Older)
+    → let t = step smallest s (updated-to this-firmware) in power-up (t .firmware) (t .ring) (t .fram) (numbered-power-up smallest (t .firmware) n) .answer ≡ Stopped 4
+unfolding step left-by entered dropped half-length
+outgrown-at s n k x g h few long =
+    let t = step smallest s (updated-to this-firmware) in
+    let inv = hold-updated smallest s (x .holds) this-firmware g in
+    let framed : fram-wrong (this-firmware .largest-fram) (s .fram) ≡ false = fram-kept (this-firmware .largest-fram) (bench-fram Older) (s .fram) long (smallest-fits this-firmware Older (lit≤ tt) .fram-right) in
     let new : List·Memᴰ (bytes nonce-length n) (s .nonces) → ⊥ = below-new n (s .nonces) h (x .numbers) in
-    let l : Last smallest t (numbered-power-up smallest n) = record {
+    let l : Last smallest t (numbered-power-up smallest this-firmware n) = record {
       sizes = refl;
       key = refl;
       nonce-long = length-bytes nonce-length n;
       nonce-new = new;
-      staging = room (s .fram) (x .holds .fram-right);
-      state = rw length-state (omega arith);
+      staging = room this-firmware (s .fram) framed;
+      state = rw (length-state this-firmware) (omega arith);
     } in
-    let o = outcome smallest t inv (numbered-power-up smallest n) key-ok l in
-    o .outgrown .1 (x .c, x .entry .entry-is, (λ q. omega (arith, x .entry .restarts-are, x .restarts)), rw (resealed-long smallest t inv (numbered-power-up smallest n) key-ok l (x .c) (x .entry), x .no-open, x .no-secret) (omega (arith, long)))
+    let o = outcome smallest t inv (numbered-power-up smallest this-firmware n) key-ok framed l in
+    o .outgrown .1 (x .c, x .entry .entry-is, (λ q. omega (arith, x .entry .restarts-are, x .restarts)), rw (resealed-long smallest t inv (numbered-power-up smallest this-firmware n) key-ok framed l (x .c) (x .entry), x .no-open, x .no-secret) (omega (arith, long)))
 
 pub outgrown-example : OutgrownExample
 unfolding OutgrownExample
-outgrown-example = (allowed, subst (λ (t : State). power-up (t .form) (t .ring) (t .fram) (numbered-power-up smallest 1) .answer ≡ Stopped 4) (sym is) stopped)
+outgrown-example = (allowed, subst (λ (t : State). power-up (t .firmware) (t .ring) (t .fram) (numbered-power-up smallest (t .firmware) 1) .answer ≡ Stopped 4) (sym is) stopped)
   where
     s : State
-    s = bench-state Older Older
+    s = bench-state first-firmware Older
 
     older : List Event
     older = history smallest s 0 0
 
-    row : Row smallest s older 1 0
-    row = bench-row Older
-
     t : State
-    t = step smallest (run smallest s older) Updated
+    t = step smallest (run smallest s older) (updated-to this-firmware)
 
-    is : run smallest s (older ++ Updated ∷ []) ≡ t
-    is = run-updated smallest older [] s ∙ no-events smallest t .1
+    succeeds : Succeeds (run smallest s older .firmware) this-firmware
+    succeeds = rw (first-row .passed .firmware ∙ fresh-firmware first-firmware Older) succeeds-first
 
-    allowed : Allowed smallest s (older ++ Updated ∷ [])
-    allowed = allowed-updated smallest older [] s (row .passed .allowed) (no-events smallest t .0)
+    is : run smallest s (older ++ updated-to this-firmware ∷ []) ≡ t
+    is = run-updated smallest this-firmware older [] s ∙ no-events smallest t .1
 
-    stopped : power-up (t .form) (t .ring) (t .fram) (numbered-power-up smallest 1) .answer ≡ Stopped 4
-    stopped = outgrown-at (run smallest s older) 1 0 (row .after .standing) (lit< tt) (lit< tt) (row .passed .fram-long)
+    allowed : Allowed smallest s (older ++ updated-to this-firmware ∷ [])
+    allowed = allowed-updated smallest this-firmware older [] s (first-row .passed .allowed) succeeds (no-events smallest t .0)
+
+    long : length (run smallest s older .fram) ≡ length (bench-fram Older)
+    long = first-row .passed .fram-long ∙ fresh-fram first-firmware Older
+
+    stopped : power-up (t .firmware) (t .ring) (t .fram) (numbered-power-up smallest (t .firmware) 1) .answer ≡ Stopped 4
+    stopped = outgrown-at (run smallest s older) 1 0 (first-row .after .standing) succeeds (lit< tt) (lit< tt) long

@@ -54,7 +54,7 @@ erasing u t h c origin e Done d = absurd (let z = same-stores _ _ _ e (d .1) ∙
 
 -- ---- the power fails in it
 
-broken-keeps : (u : Setup) (s : State) (o : Option Handed) (left : List ℕ) (j : Journal) → (broken u s o left j .nonces ≡ s .nonces) × (broken u s o left j .form ≡ s .form)
+broken-keeps : (u : Setup) (s : State) (o : Option Handed) (left : List ℕ) (j : Journal) → (broken u s o left j .nonces ≡ s .nonces) × (broken u s o left j .firmware ≡ s .firmware)
 unfolding broken
 broken-keeps u s none left j = (refl, refl)
 broken-keeps u s (some h) left j = (refl, refl)
@@ -71,7 +71,7 @@ pub record Owing (u : Setup) (s t : State) (c : Checkpoint) (nonce : List ℕ) :
   pub owed : t .journal .owed ≡ true
   pub count : t .journal .count ≡ s .journal .count + 1
   pub nonces : t .nonces ≡ nonce ∷ s .nonces
-  pub form : t .form ≡ s .form
+  pub firmware : t .firmware ≡ s .firmware
   pub fram-long : length (t .fram) ≡ length (s .fram)
 
 module _ (u : Setup) (t : State) (c : Checkpoint) (origin : Origin) (h : Handed) (left : List ℕ)
@@ -92,17 +92,17 @@ module _ (u : Setup) (t : State) (c : Checkpoint) (origin : Origin) (h : Handed)
   unfolding entered
   loss-journal = blind u t (lost-in-store left) ∙ lost-erase (t .journal) c origin [] left d (at-erase .2 .owed)
 
-  loss-keeps-both : (step u t (lost-in-store left) .nonces ≡ t .nonces) × (step u t (lost-in-store left) .form ≡ t .form)
+  loss-keeps-both : (step u t (lost-in-store left) .nonces ≡ t .nonces) × (step u t (lost-in-store left) .firmware ≡ t .firmware)
   unfolding step left-by
   loss-keeps-both = broken-keeps u t (t .handed) left _
 
   loss-fram : step u t (lost-in-store left) .fram ≡ t .fram
   unfolding step left-by
-  loss-fram = ap (λ (x : Option Handed). broken u t x left (entered u (t .form) (t .journal) (lost-in-store left) (refused t (lost-in-store left))) .fram) q
+  loss-fram = ap (λ (x : Option Handed). broken u t x left (entered u (t .firmware .form) (t .journal) (lost-in-store left) (refused t (lost-in-store left))) .fram) q
       ∙ erase-fram u t h left _ (at-erase .0) (at-erase .1)
 
   loss-owing : (s : State) (nonce : List ℕ) → blank left ≡ false → t .journal .count ≡ s .journal .count + 1 → t .nonces ≡ nonce ∷ s .nonces
-      → t .form ≡ s .form → length (t .fram) ≡ length (s .fram)
+      → t .firmware ≡ s .firmware → length (t .fram) ≡ length (s .fram)
       → Owing u s (step u t (lost-in-store left)) c nonce
   loss-owing s nonce b n m o r = record {
     holds = hold-lost-in-store u t left inv loss-keeps;
@@ -110,7 +110,7 @@ module _ (u : Setup) (t : State) (c : Checkpoint) (origin : Origin) (h : Handed)
     owed = ap (λ (j : Journal). j .owed) loss-journal ∙ ap not b;
     count = ap (λ (j : Journal). j .count) loss-journal ∙ n;
     nonces = loss-keeps-both .0 ∙ m;
-    form = loss-keeps-both .1 ∙ o;
+    firmware = loss-keeps-both .1 ∙ o;
     fram-long = ap (λ (l : List ℕ). length l) loss-fram ∙ r;
   }
 
@@ -123,7 +123,7 @@ module _ (u : Setup) (s : State) (e : Event) (c : Checkpoint) (origin : Origin) 
     (inv : Holds u (step u s e)) (q : step u s e .handed ≡ some h)
     (d : step u s e .journal .draft ≡ some (draft-of c origin (stores-of (u .key) (u .sizes .slots) (s .journal) c)))
     (n : step u s e .journal .count ≡ s .journal .count) (m : step u s e .nonces ≡ nonce ∷ s .nonces)
-    (o : step u s e .form ≡ s .form) (r : step u s e .fram ≡ s .fram)
+    (o : step u s e .firmware ≡ s .firmware) (r : step u s e .fram ≡ s .fram)
     (opens : ltb 0 (s .journal .count) && eqb (s .journal .count % u .sizes .slots) 0 ≡ true)
     (l : length left ≡ slot-length * u .sizes .slots) (b : blank left ≡ false) where
   abbrev first : List Store
@@ -153,7 +153,7 @@ module _ (u : Setup) (s : State) (e : Event) (c : Checkpoint) (origin : Origin) 
   owing-here : Owing u s (run u (run u s before) (lost-in-store left ∷ [])) c nonce
   unfolding run
   owing-here = loss-owing u there c origin (made-here .handed) left (made-here .holds) (made-here .handed-is) (made-here .draft-is) l
-      s nonce b (made-here .count ∙ (λ i. n i + first-record (u .key) (s .journal) c i)) (made-here .nonces ∙ m) (made-here .form ∙ o)
+      s nonce b (made-here .count ∙ (λ i. n i + first-record (u .key) (s .journal) c i)) (made-here .nonces ∙ m) (made-here .firmware ∙ o)
       (made-here .fram-long ∙ ap (λ (l : List ℕ). length l) r)
 
   events-are : but-the-last u s e left ≡ before ++ lost-in-store left ∷ []

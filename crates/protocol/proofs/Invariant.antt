@@ -12,12 +12,13 @@ use Rattle.octets.specs.Octets.{blank}
 use Rattle.octets.proofs.Laws.{Written}
 use Rattle.ring.specs.Ring.{ring-wrong, page-before, record-of}
 use Rattle.ring.proofs.RingLaws.{Ringed, page-of, slot-of, last}
+use Rattle.checkpoint.proofs.FramLaws.{Image}
 use Rattle.checkpoint.specs.Checkpoint.{Checkpoint, own-tag, sealed, sealed-length}
 use Rattle.checkpoint.specs.Layout.{InRange}
 use Rattle.checkpoint.proofs.SealedLaws.{length-sealed}
-use Rattle.checkpoint.proofs.HalfLaws.{Reads}
+use Rattle.checkpoint.specs.Half.{Reads}
 use Rattle.checkpoint.specs.Fram.{fram-wrong, half-length}
-use Rattle.protocol.specs.Types.{Origin, Session, Phase, EraseFirst, Words, Record, EraseAfter, Done, Progress, GoingOn}
+use Rattle.protocol.specs.Types.{Firmware, Origin, Session, Phase, EraseFirst, Words, Record, EraseAfter, Done, Progress, GoingOn}
 use Rattle.protocol.specs.Calls.{Setup}
 use Rattle.protocol.specs.Operations.{finished}
 use Rattle.protocol.specs.Journal.{Draft, Store, erase, word, record-slot, erase-if}
@@ -48,6 +49,14 @@ length-good key {c} g = length-sealed key c (g .range .previous-long)
 
 pub sealed-fits : (key : List ℕ) {c : Checkpoint} {size : ℕ} → Good c size → length (sealed key c) ≤ size
 sealed-fits key g = rw (length-good key g) (g .fits)
+
+-- both parts are not longer than the firmware's longest
+abbrev pub Small : Firmware → Checkpoint → Type 0
+Small firmware c = (length (c .open-part) ≤ firmware .longest-part) × (length (c .secret) ≤ firmware .longest-part)
+
+-- the firmware reads a checkpoint's head and takes its parts
+abbrev pub ReadBy : Firmware → Checkpoint → Type 0
+ReadBy firmware c = Reads (firmware .form) (c .form) × Small firmware c
 
 -- nothing was recorded
 pub record Untouched (ring : List ℕ) (entry : Option Checkpoint) (count : ℕ) (owed : Bool) (power-ups : ℕ) : Type 0 where
@@ -85,7 +94,9 @@ draft-of c origin stores = record { checkpoint = c; origin = origin; power-ups =
 pub record Working (u : Setup) (s : State) (h : Handed) (n : ℕ) (stores : List Store) : Type 0 where
   pub c : Checkpoint
   pub origin : Origin
-  pub form-is : c .form ≡ s .form
+  pub form-is : c .form ≡ s .firmware .form
+  pub small : Small (s .firmware) c
+  pub fram-fits : fram-wrong (s .firmware .largest-fram) (s .fram) ≡ false
   pub draft-is : s .journal .draft ≡ some (draft-of c origin stores)
   pub good : Good c (half-length (s .fram))
   pub nonce-known : List·Memᴰ (c .nonce) (s .nonces)
@@ -151,13 +162,13 @@ Matches u z c = (z .tag ≡ own-tag (u .key) c) × (z .restarts ≡ c .restarts)
 
 pub record Holds (u : Setup) (s : State) : Type 0 where
   pub ring-right : ring-wrong (u .sizes .pages) (u .sizes .slots) (s .ring) ≡ false
-  pub fram-right : fram-wrong (s .fram) ≡ false
+  -- an image, though the firmware may not take so large a one
+  pub fram-right : Image (s .fram)
   pub durable : DurableAt u s (s .ring) (s .fram) (s .journal .owed)
   pub sessions-known : (z : Session) → List·Memᴰ z (s .sessions) → List·Memᴰ (take nonce-length (z .latest)) (s .nonces)
   pub sessions-match : (z : Session) → List·Memᴰ z (s .sessions) → (c : Checkpoint) → s .journal .entry ≡ some c
       → take nonce-length (z .latest) ≡ c .nonce → Matches u z c
-  -- the firmware reads the entry's head
-  pub reads-entry : (c : Checkpoint) → s .journal .entry ≡ some c → Reads (s .form) (c .form)
+  pub reads-entry : (c : Checkpoint) → s .journal .entry ≡ some c → ReadBy (s .firmware) c
   pub doing : (h : Handed) → s .handed ≡ some h → Doing u s h (h .job .phase)
 
 -- ---- after one advance

@@ -76,14 +76,14 @@ Answering u s [] answers = answers ≡ []
 Answering u s (e ∷ more) answers =
     (T (refused s e) × Answering u (step u s e) more answers) ⊎
     ((a : Advances) × (e ≡ advanced-by a) × (a .sizes ≡ u .sizes) × (s .handed ≡ some (record { job = a .job; staging = a .staging })) ×
-    (later : List Progress) × (answers ≡ advance (s .form) (s .ring) (s .fram) a .progress ∷ later) × Answering u (step u s e) more later)
+    (later : List Progress) × (answers ≡ advance (s .firmware) (s .ring) (s .fram) a .progress ∷ later) × Answering u (step u s e) more later)
 
 refused-answers : (u : Setup) (s : State) (e : Event) (more : List Event) → refused s e ≡ true → answers u (e ∷ more) s ≡ answers u more (step u s e)
 unfolding answers
 refused-answers u s e more r = rw r
 
 advance-answers : (u : Setup) (s : State) (a : Advances) (more : List Event) → refused s (advanced-by a) ≡ false
-    → answers u (advanced-by a ∷ more) s ≡ advance (s .form) (s .ring) (s .fram) a .progress ∷ answers u more (step u s (advanced-by a))
+    → answers u (advanced-by a ∷ more) s ≡ advance (s .firmware) (s .ring) (s .fram) a .progress ∷ answers u more (step u s (advanced-by a))
 unfolding answers answered
 advance-answers u s a more r = rw r
 
@@ -139,9 +139,9 @@ ends-cons u new e more ih t inv [] d f answers (inr (a, e′, z, h, later, q, k)
     let w : length answers ≡ suc (length later) = ap (λ (y : List Progress). length y) q in absurd (omega arith)
 ends-cons u new e more ih t inv (x ∷ rest) d f answers (inr (a, e′, z, h, later, q, k)) l =
     let path : call u (record { job = a .job; staging = a .staging }) ≡ a = λ i. record { sizes = sym z i; job = a .job; staging = a .staging } in
-    let m = subst (λ (b : Advances). Moving u (step u t (advanced-by b)) (advance (t .form) (t .ring) (t .fram) b .progress) new PowerUp rest) path
+    let m = subst (λ (b : Advances). Moving u (step u t (advanced-by b)) (advance (t .firmware) (t .ring) (t .fram) b .progress) new PowerUp rest) path
     (advancing u t (record { job = a .job; staging = a .staging }) inv new PowerUp x rest d h) in
-    let m′ = subst (λ (y : Event). Moving u (step u t y) (advance (t .form) (t .ring) (t .fram) a .progress) new PowerUp rest) (sym e′) m in
+    let m′ = subst (λ (y : Event). Moving u (step u t y) (advance (t .firmware) (t .ring) (t .fram) a .progress) new PowerUp rest) (sym e′) m in
     let w : length answers ≡ suc (length later) = ap (λ (y : List Progress). length y) q in
     let v : length later ≡ length rest = omega arith in
     let y = ih (step u t e) (m′ .holds) rest (m′ .draft-is) (m′ .ended) later k v in
@@ -157,7 +157,7 @@ pub advances-on : (u : Setup) (n : ℕ) (t : State) (h : Handed) → t .handed �
 unfolding advances-of with-handed
 advances-on u n t h e = ap (λ (o : Option Handed). with-handed o (λ h. advanced-by (call u h) ∷ advances-of u n (step u t (advanced-by (call u h))))) e
 
-runs-more : (u : Setup) (t : State) (h : Handed) (n : ℕ) → t .handed ≡ some h → is-stopped (advance (t .form) (t .ring) (t .fram) (call u h) .progress) ≡ false
+runs-more : (u : Setup) (t : State) (h : Handed) (n : ℕ) → t .handed ≡ some h → is-stopped (advance (t .firmware) (t .ring) (t .fram) (call u h) .progress) ≡ false
     → Uninterrupted u (step u t (advanced-by (call u h))) (advances-of u n (step u t (advanced-by (call u h))))
     → length (answers u (advances-of u n (step u t (advanced-by (call u h)))) (step u t (advanced-by (call u h)))) ≡ n
     → Uninterrupted u t (advances-of u (suc n) t) × (length (answers u (advances-of u (suc n) t) t) ≡ suc n)

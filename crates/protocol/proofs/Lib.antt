@@ -17,11 +17,13 @@ pub mod PowerLosses
 pub mod Lists
 pub mod LastRun
 pub mod Looking
+pub mod Blind
+pub mod Runs
+pub mod Lengths
 pub mod Recovery
 pub mod FreeResults
 pub mod Sequence
-pub mod Blind
-pub mod Runs
 pub mod Interrupted
 pub mod Histories
 pub mod OlderLaws
+pub mod BeyondLaws

@@ -8,9 +8,9 @@ use native.Mathlib.Omega.{arith}
 use lib.Dec.{T}
 use Rattle.octets.specs.Octets.{blank}
 use Rattle.ring.specs.Ring.{ring-wrong}
-use Rattle.checkpoint.specs.Checkpoint.{Form}
-use Rattle.checkpoint.specs.Fram.{fram-wrong}
-use Rattle.protocol.specs.Calls.{Setup, Event, first-saved, saved, powered-up, advanced-by, PowerLoss, Updated, lost-in-store}
+use Rattle.checkpoint.proofs.FramLaws.{Image}
+use Rattle.protocol.specs.Types.{Firmware}
+use Rattle.protocol.specs.Calls.{Setup, Event, first-saved, saved, powered-up, advanced-by, PowerLoss, updated-to, lost-in-store}
 use Rattle.protocol.specs.Journal.{empty}
 use Rattle.protocol.specs.History.{State, fresh, step, run, refused, Keeps, Allowed}
 use Rattle.protocol.specs.Recovery.{Follows, Exactly, Uninterrupted}
@@ -26,13 +26,14 @@ use Rattle.protocol.proofs.PowerUps.{hold-powered-up}
 use Rattle.protocol.proofs.PowerLosses.{hold-power-loss, hold-updated, hold-lost-in-store}
 
 pub hold-step : (u : Setup) (s : State) (e : Event) → Holds u s → T (refused s e) ⊎ Keeps u s e → Holds u (step u s e)
+unfolding Keeps
 hold-step u s e inv (inl t) = rw (step-refused u s e t) inv
 hold-step u s (first-saved a) inv (inr k) = hold-first u s a inv k
 hold-step u s (saved a) inv (inr k) = hold-saved u s a inv k
 hold-step u s (powered-up a) inv (inr k) = hold-powered-up u s a inv k
 hold-step u s (advanced-by a) inv (inr k) = hold-advanced u s inv a k
 hold-step u s PowerLoss inv (inr k) = hold-power-loss u s inv
-hold-step u s Updated inv (inr k) = hold-updated u s inv
+hold-step u s (updated-to firmware) inv (inr k) = hold-updated u s inv firmware k
 hold-step u s (lost-in-store left) inv (inr k) = hold-lost-in-store u s left inv k
 
 pub hold-run : (u : Setup) (events : List Event) (s : State) → Holds u s → Allowed u s events → Holds u (run u s events)
@@ -47,7 +48,7 @@ tells u s (saved a) inv = tt
 tells u s (powered-up a) inv = tt
 tells u s (advanced-by a) inv = told u s inv a
 tells u s PowerLoss inv = tt
-tells u s Updated inv = tt
+tells u s (updated-to firmware) inv = tt
 tells u s (lost-in-store left) inv = tt
 
 pub exactly : (u : Setup) (events : List Event) (s : State) → Holds u s → Allowed u s events → Exactly u s events
@@ -71,9 +72,10 @@ unfolding Exactly Allowed
 exactly-unfit u [] s x k = tt
 exactly-unfit u (e ∷ more) s x k = (exact s e, unfit-told u s x e, exactly-unfit u more (step u s e) (unfit-step u s x e (k .0)) (k .1))
 
-pub hold-fresh : (u : Setup) (form : Form) (ring fram : List ℕ) → ring-wrong (u .sizes .pages) (u .sizes .slots) ring ≡ false → fram-wrong fram ≡ false → blank ring ≡ true → Holds u (fresh form ring fram)
+pub hold-fresh : (u : Setup) (firmware : Firmware) (ring fram : List ℕ) → ring-wrong (u .sizes .pages) (u .sizes .slots) ring ≡ false → Image fram → blank ring ≡ true
+    → Holds u (fresh firmware ring fram)
 unfolding fresh empty
-hold-fresh u form ring fram r f b = record {
+hold-fresh u firmware ring fram r f b = record {
   ring-right = r;
   fram-right = f;
   durable = inl (record { no-entry = refl; no-record = refl; none-owed = refl; no-power-up = refl; ring-blank = b });

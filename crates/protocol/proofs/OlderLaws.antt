@@ -1,4 +1,4 @@
--- At the older form the operations are document 01's.
+-- At document 01's firmware the operations are document 01's.
 use Prim.Native.Nat.{ℕ, _+_}
 use mathlib.Core.Path.{_≡_, refl, ap, _∙_}
 use mathlib.Core.Bool.{Bool, true, false, cond, _||_}
@@ -11,7 +11,7 @@ use Rattle.stops.proofs.Laws.{tried, first-append, passes}
 use Rattle.checkpoint.specs.Checkpoint.{Older, own-tag, sealed-length}
 use Rattle.checkpoint.specs.Half.{open-length, secret-length, good-head}
 use Rattle.checkpoint.proofs.StoredLaws.{head-facts}
-use Rattle.protocol.specs.Operations.{packet-wrong, session-wrong, written-number, save-restarts, outgrows, parts-wrong, job-wrong, newest-in, newest-half, first-checkpoint, save-checkpoint, resumed, first-save-stop, save-stop, power-up-stop, look-stop, advance-stop}
+use Rattle.protocol.specs.Operations.{packet-wrong, session-wrong, written-number, save-restarts, outgrows, parts-wrong, state-wrong, job-wrong, newest-in, newest-half, first-checkpoint, save-checkpoint, resumed, first-save-stop, save-stop, power-up-stop, look-stop, advance-stop}
 use Rattle.protocol.specs.Older.{OlderIs}
 
 -- a condition that never holds may be left out
@@ -28,9 +28,9 @@ or-false true = refl
 or-false false = refl
 
 -- a checkpoint in its own form does not outgrow its half
-never-outgrows : (half : List ℕ) → good-head Older half ≡ true → outgrows Older half ≡ false
+never-outgrows : (limit : ℕ) (half : List ℕ) → good-head limit Older half ≡ true → outgrows Older half ≡ false
 unfolding outgrows
-never-outgrows half g = le-ltb (length half) (sealed-length Older (open-length Older half) (secret-length Older half)) (head-facts Older half g .fits)
+never-outgrows limit half g = le-ltb (length half) (sealed-length Older (open-length Older half) (secret-length Older half)) (head-facts limit Older half g .fits)
 
 -- a last condition that holds only where an earlier one does
 last-skipped : (xs : List (ℕ × Bool)) (n : ℕ) (b : Bool) → (first-of xs ≡ none → b ≡ false) → first-of (xs ++ (n, b) ∷ []) ≡ first-of xs
@@ -42,13 +42,13 @@ last-skipped xs n b f = first-append xs ((n, b) ∷ []) refl ∙ go (first-of xs
     go none e = ap (λ (t : Bool). cond t (some n) none) (f e)
 
 pub older-is : OlderIs
-unfolding OlderIs first-save-stop save-stop power-up-stop look-stop advance-stop packet-wrong session-wrong parts-wrong job-wrong first-checkpoint save-checkpoint resumed written-number save-restarts
+unfolding OlderIs first-save-stop save-stop power-up-stop look-stop advance-stop packet-wrong session-wrong parts-wrong state-wrong job-wrong first-checkpoint save-checkpoint resumed written-number save-restarts
 older-is = (
   λ ring fram. record {
     first-save = λ a. skipped (_ ∷ _ ∷ _ ∷ _ ∷ []) (_ ∷ []) 18;
     save = λ a. skipped (_ ∷ _ ∷ _ ∷ _ ∷ []) _ 18 ∙ same-line (_ ∷ _ ∷ _ ∷ _ ∷ _ ∷ _ ∷ []) _ 8 _ _ (or-false _);
     power-up = λ a. last-skipped (_ ∷ _ ∷ _ ∷ _ ∷ _ ∷ _ ∷ _ ∷ _ ∷ _ ∷ _ ∷ []) 4 _ (λ e.
-        never-outgrows (newest-half ring fram (a .sizes .slots) (newest-in ring (a .sizes))) (not-false _ (passes _ e .1 .1 .1 .1 .1 .1 .1 .0)));
+        never-outgrows 4096 (newest-half ring fram (a .sizes .slots) (newest-in ring (a .sizes))) (not-false _ (passes _ e .1 .1 .1 .1 .1 .1 .1 .0)));
     look = λ a. refl;
     advance = λ a. refl;
   },

@@ -15,25 +15,25 @@ use Rattle.ring.proofs.StoreLaws.{put-blank}
 use Rattle.ring.specs.Ring.{slot-at, ring-wrong, record-of, page-put, record-put}
 use Rattle.ring.proofs.SizeLaws.{Sized, sized, slot-ends}
 use Rattle.ring.proofs.RecordLaws.{length-record, is-record-of, record-used}
-use Rattle.checkpoint.specs.Checkpoint.{Checkpoint}
-use Rattle.checkpoint.proofs.HalfLaws.{Reads}
-use Rattle.checkpoint.specs.Fram.{fram-wrong, half-length}
-use Rattle.checkpoint.proofs.FramLaws.{fram-kept, half-within}
-use Rattle.protocol.specs.Types.{Origin, Session, Phase, EraseFirst, Words, Record, EraseAfter, Done}
-use Rattle.protocol.specs.Calls.{Setup, PowerLoss, Updated, lost-in-store}
+use Rattle.checkpoint.specs.Checkpoint.{Form, Older, Longer, Checkpoint}
+use Rattle.checkpoint.specs.Half.{Reads}
+use Rattle.checkpoint.specs.Fram.{half-length}
+use Rattle.checkpoint.proofs.FramLaws.{Image, image-kept, half-within}
+use Rattle.protocol.specs.Types.{Firmware, Origin, Session, Phase, EraseFirst, Words, Record, EraseAfter, Done}
+use Rattle.protocol.specs.Calls.{Setup, PowerLoss, updated-to, lost-in-store}
 use Rattle.protocol.specs.Operations.{job-record, recorded}
 use Rattle.protocol.specs.Journal.{entered, lost-into, Journal, Draft, Store, erase, word, record-slot, erase-if, to-come, made, dropped, whole}
-use Rattle.protocol.specs.History.{State, Handed, broken-ring, broken-fram, broken, step, Left, Keeps, left-by}
-use Rattle.protocol.proofs.Invariant.{draft-of, sealed-fits, half-of, owed-page, DurableAt, Recorded, Durable, Working, last-erase, Writing, Recording, Doing, Matches, Holds}
+use Rattle.protocol.specs.History.{State, Handed, Succeeds, broken-ring, broken-fram, broken, step, Left, Keeps, left-by}
+use Rattle.protocol.proofs.Invariant.{ReadBy, draft-of, sealed-fits, half-of, owed-page, DurableAt, Recorded, Durable, Working, last-erase, Writing, Recording, Doing, Matches, Holds}
 use Rattle.protocol.proofs.Advances.{erase-durable, fram-durable}
 use Rattle.protocol.proofs.Records.{recorded-durable, recorded-is, none-match, now-reads, record-at, full, next-slot-blank, owing}
 
 module _ (u : Setup) (s : State) (inv : Holds u s) where
-  loss-holds : (ring fram : List ℕ) (j : Journal) → ring-wrong (u .sizes .pages) (u .sizes .slots) ring ≡ false → fram-wrong fram ≡ false
+  loss-holds : (ring fram : List ℕ) (j : Journal) → ring-wrong (u .sizes .pages) (u .sizes .slots) ring ≡ false → Image fram
       → Durable u ring fram (s .nonces) (j .entry) (j .count) (j .owed) (j .power-ups)
       → ((z : Session) → List·Memᴰ z (s .sessions) → (c : Checkpoint) → j .entry ≡ some c → take nonce-length (z .latest) ≡ c .nonce → Matches u z c)
-      → ((c : Checkpoint) → j .entry ≡ some c → Reads (s .form) (c .form))
-      → Holds u (record { ring = ring; fram = fram; handed = none; sessions = s .sessions; nonces = s .nonces; journal = j; form = s .form })
+      → ((c : Checkpoint) → j .entry ≡ some c → ReadBy (s .firmware) c)
+      → Holds u (record { ring = ring; fram = fram; handed = none; sessions = s .sessions; nonces = s .nonces; journal = j; firmware = s .firmware })
   loss-holds ring fram j r f d m k = record {
     ring-right = r;
     fram-right = f;
@@ -44,7 +44,7 @@ module _ (u : Setup) (s : State) (inv : Holds u s) where
     doing = λ h e. absurd (let z : _≡_ {A = ℕ} 0 1 = cc in omega arith);
   }
 
-  hold-dropped : Holds u (record { ring = s .ring; fram = s .fram; handed = none; sessions = s .sessions; nonces = s .nonces; journal = dropped (s .journal); form = s .form })
+  hold-dropped : Holds u (record { ring = s .ring; fram = s .fram; handed = none; sessions = s .sessions; nonces = s .nonces; journal = dropped (s .journal); firmware = s .firmware })
   unfolding dropped
   hold-dropped = loss-holds (s .ring) (s .fram) (dropped (s .journal)) (inv .ring-right) (inv .fram-right) (inv .durable) (inv .sessions-match) (inv .reads-entry)
 
@@ -52,16 +52,20 @@ module _ (u : Setup) (s : State) (inv : Holds u s) where
   unfolding step left-by entered
   hold-power-loss = hold-dropped
 
-  -- firmware of the longer form reads every head
-  pub hold-updated : Holds u (step u s Updated)
+  -- the next firmware reads what the one before read
+  reads-on : (next form form′ : Form) → Reads next form′ → Reads form′ form → Reads next form
+  reads-on Older form form′ a b = subst (λ (f : Form). Reads f form) a b
+  reads-on Longer form form′ a b = tt
+
+  pub hold-updated : (next : Firmware) → Succeeds (s .firmware) next → Holds u (step u s (updated-to next))
   unfolding step left-by entered dropped
-  hold-updated = record {
+  hold-updated next k = record {
     ring-right = inv .ring-right;
     fram-right = inv .fram-right;
     durable = inv .durable;
     sessions-known = λ z m. absurd (List·Memᴰ·not-nil m);
     sessions-match = λ z m. absurd (List·Memᴰ·not-nil m);
-    reads-entry = λ c e. tt;
+    reads-entry = λ c e. let r = inv .reads-entry c e in (reads-on (next .form) (c .form) (s .firmware .form) (k .heads) (r .0), (omega (arith, k .parts, r .1 .0), omega (arith, k .parts, r .1 .1)));
     doing = λ h e. absurd (let z : _≡_ {A = ℕ} 0 1 = cc in omega arith);
   }
 
@@ -115,7 +119,7 @@ module _ (u : Setup) (s : State) (inv : Holds u s) (h : Handed) (left : List ℕ
     sessions = s .sessions;
     nonces = s .nonces;
     journal = j;
-    form = s .form;
+    firmware = s .firmware;
   }
 
   loss-in-erase : (p : ℕ) (c : Checkpoint) (origin : Origin) (rest : List Store) → s .journal .draft ≡ some (draft-of c origin (erase ∷ rest))
@@ -127,7 +131,7 @@ module _ (u : Setup) (s : State) (inv : Holds u s) (h : Handed) (left : List ℕ
         sessions = s .sessions;
         nonces = s .nonces;
         journal = lost-into (s .journal) (s .journal .draft) left;
-        form = s .form;
+        firmware = s .firmware;
       })
   loss-in-erase p c origin rest d o e l =
       subst (λ (q : ℕ). Holds u (record {
@@ -137,7 +141,7 @@ module _ (u : Setup) (s : State) (inv : Holds u s) (h : Handed) (left : List ℕ
         sessions = s .sessions;
         nonces = s .nonces;
         journal = lost-into (s .journal) (s .journal .draft) left;
-        form = s .form;
+        firmware = s .firmware;
       })) (sym e)
       (subst (λ (j : Journal). Holds u (record {
         ring = page-put (s .ring) (u .sizes .slots) (owed-page u s) left;
@@ -146,7 +150,7 @@ module _ (u : Setup) (s : State) (inv : Holds u s) (h : Handed) (left : List ℕ
         sessions = s .sessions;
         nonces = s .nonces;
         journal = j;
-        form = s .form;
+        firmware = s .firmware;
       })) (sym (lost-erase (s .journal) c origin rest left d o))
       (loss-holds u s inv (page-put (s .ring) (u .sizes .slots) (owed-page u s) left) (s .fram)
       (record { entry = s .journal .entry; count = s .journal .count; owed = not (blank left); power-ups = s .journal .power-ups; draft = none })
@@ -158,6 +162,13 @@ module _ (u : Setup) (s : State) (inv : Holds u s) (h : Handed) (left : List ℕ
       x = erase-durable left l
           (subst (λ (b : Bool). DurableAt u s (s .ring) (s .fram) b) o (inv .durable))
 
+  pub word-loss-kept : (w : ℕ) → Writing u s h w → length left ≡ 4 → length (put (s .fram) (h .job .half * half-length (s .fram) + 4 * w) left) ≡ length (s .fram)
+  word-loss-kept w d l =
+      let k = d .before .working in
+      let long : h .job .length ≤ half-length (s .fram) = rw (k .length-is) (sealed-fits (u .key) (k .good)) in
+      length-put (s .fram) (h .job .half * half-length (s .fram) + 4 * w) left
+      (omega (arith, long, d .left-is, half-within (s .fram) (h .job .half) (inv .fram-right) (rw (k .half-is) (omega arith))))
+
   loss-in-word : (w : ℕ) → Writing u s h w → length left ≡ 4
       → Holds u (record {
         ring = s .ring;
@@ -166,14 +177,14 @@ module _ (u : Setup) (s : State) (inv : Holds u s) (h : Handed) (left : List ℕ
         sessions = s .sessions;
         nonces = s .nonces;
         journal = lost-into (s .journal) (s .journal .draft) left;
-        form = s .form;
+        firmware = s .firmware;
       })
   unfolding dropped
   loss-in-word w d l =
-      subst (λ (j : Journal). Holds u (record { ring = s .ring; fram = fram; handed = none; sessions = s .sessions; nonces = s .nonces; journal = j; form = s .form }))
+      subst (λ (j : Journal). Holds u (record { ring = s .ring; fram = fram; handed = none; sessions = s .sessions; nonces = s .nonces; journal = j; firmware = s .firmware }))
       (sym (lost-word (s .journal) (k .c) (k .origin) (replicate (d .left) word ++ record-slot ∷ last-erase u s) left (k .draft-is)))
       (loss-holds u s inv (s .ring) fram (dropped (s .journal)) (inv .ring-right)
-      (fram-kept (s .fram) fram (length-put (s .fram) (h .job .half * half-length (s .fram) + 4 * w) left within) (inv .fram-right)) durable (inv .sessions-match) (inv .reads-entry))
+      (image-kept (s .fram) fram (word-loss-kept w d l) (inv .fram-right)) durable (inv .sessions-match) (inv .reads-entry))
     where
       k : Working u s h (s .journal .count + 1) (word ∷ (replicate (d .left) word ++ record-slot ∷ last-erase u s))
       k = d .before .working
@@ -183,9 +194,6 @@ module _ (u : Setup) (s : State) (inv : Holds u s) (h : Handed) (left : List ℕ
 
       long : h .job .length ≤ half-length (s .fram)
       long = rw (k .length-is) (sealed-fits (u .key) (k .good))
-
-      within : h .job .half * half-length (s .fram) + 4 * w + length left ≤ length (s .fram)
-      within = omega (arith, long, d .left-is, half-within (s .fram) (h .job .half) (inv .fram-right) (rw (k .half-is) (omega arith)))
 
       same-half : h .job .half * half-length (s .fram) ≡ half-of (s .journal .count + 1) * half-length (s .fram)
       same-half = ap (λ (y : ℕ). y * half-length (s .fram)) (k .half-is)
@@ -201,11 +209,11 @@ module _ (u : Setup) (s : State) (inv : Holds u s) (h : Handed) (left : List ℕ
         sessions = s .sessions;
         nonces = s .nonces;
         journal = lost-into (s .journal) (s .journal .draft) left;
-        form = s .form;
+        firmware = s .firmware;
       })
   unfolding recorded job-record
   loss-in-record d (inl e) =
-      subst₂ (λ (ring : List ℕ) (j : Journal). Holds u (record { ring = ring; fram = s .fram; handed = none; sessions = s .sessions; nonces = s .nonces; journal = j; form = s .form }))
+      subst₂ (λ (ring : List ℕ) (j : Journal). Holds u (record { ring = ring; fram = s .fram; handed = none; sessions = s .sessions; nonces = s .nonces; journal = j; firmware = s .firmware }))
       (sym (ap (λ (l : List ℕ). record-put (s .ring) (u .sizes .slots) (h .job .page) (h .job .slot) l) e ∙ recorded-is k))
       (sym (lost-record (s .journal) (k .c) (k .origin) (full (u .sizes .slots) (s .journal .count)) left (k .draft-is) not-blank))
       (loss-holds u s inv new (s .fram) j (r .ringed .sizes) (inv .fram-right) (inr (k .c, r)) (none-match inv d) (now-reads inv d))
@@ -228,7 +236,7 @@ module _ (u : Setup) (s : State) (inv : Holds u s) (h : Handed) (left : List ℕ
           rw e (record-used (record-of (h .job .nonce) (h .job .half)) (length-record (h .job .nonce) (h .job .half) l)
           (is-record-of (h .job .nonce) (h .job .half) l (rw (k .half-is) (omega arith))))
   loss-in-record d (inr e) =
-      subst₂ (λ (ring : List ℕ) (j : Journal). Holds u (record { ring = ring; fram = s .fram; handed = none; sessions = s .sessions; nonces = s .nonces; journal = j; form = s .form }))
+      subst₂ (λ (ring : List ℕ) (j : Journal). Holds u (record { ring = ring; fram = s .fram; handed = none; sessions = s .sessions; nonces = s .nonces; journal = j; firmware = s .firmware }))
       (sym (ap (λ (l : List ℕ). record-put (s .ring) (u .sizes .slots) (h .job .page) (h .job .slot) l) e
       ∙ put-blank (s .ring) (u .sizes .slots) (h .job .page) (h .job .slot) within slot-blank))
       (sym (lost-no-record (s .journal) (k .c) (k .origin) (last-erase u s) left (k .draft-is) (ap blank e ∙ blank-erased slot-length)))

@@ -16,11 +16,11 @@ use Rattle.ring.specs.Ring.{read-ring, half-named, target-page, target-slot, ne
 use Rattle.ring.proofs.FoundLaws.{found}
 use Rattle.checkpoint.specs.Checkpoint.{Form, Older, Longer, Checkpoint, sealed, sealed-length}
 use Rattle.checkpoint.specs.Layout.{PacketInRange}
-use Rattle.checkpoint.proofs.HalfLaws.{Reads}
+use Rattle.checkpoint.specs.Half.{Reads}
 use Rattle.checkpoint.specs.Half.{read-as, stored-restarts}
-use Rattle.checkpoint.specs.Fram.{half-length}
+use Rattle.checkpoint.specs.Fram.{fram-wrong, half-length}
 use Rattle.checkpoint.proofs.SealedLaws.{length-own-tag}
-use Rattle.protocol.specs.Types.{PowerUp, Job, Phase}
+use Rattle.protocol.specs.Types.{Firmware, PowerUp, Job, Phase}
 use Rattle.protocol.specs.Calls.{PowersUp, Setup, powered-up}
 use Rattle.protocol.specs.Operations.{key-wrong, nonce-wrong, staging-wrong, Begin, begin, job-of, outgrows, newest-half, newest-checkpoint, resumed, first-phase, power-up-stop, power-up}
 use Rattle.protocol.specs.Journal.{entered, resumed-entry, Journal, drafted, power-up-draft}
@@ -54,19 +54,19 @@ module _ (u : Setup) (s : State) (inv : Holds u s) (a : PowersUp) (c : Checkpoin
   reads-as : n ≡ found (u .sizes .pages) (u .sizes .slots) (s .journal .count) (s .journal .owed)
   reads-as = reads (inv .fram-right) r
 
-  opened : newest-checkpoint (s .form) (s .ring) (s .fram) (power-call u a) ≡ c
+  opened : newest-checkpoint (s .firmware) (s .ring) (s .fram) (power-call u a) ≡ c
   unfolding newest-checkpoint
-  opened = rw reads-as (checkpoint-found (inv .fram-right) r (s .form) (inv .reads-entry c (r .entry-is)))
+  opened = rw reads-as (checkpoint-found (inv .fram-right) r (s .firmware) (inv .reads-entry c (r .entry-is)))
 
-  pub power-up-is : power-up (s .form) (s .ring) (s .fram) (power-call u a)
-      ≡ begin (power-up-stop (s .form) (s .ring) (s .fram) (power-call u a)) (u .key) (power-up-draft (s .form) (u .key) (a .nonce) c)
-      (resuming-job u s (power-up-draft (s .form) (u .key) (a .nonce) c)) (a .staging) (a .state) (c .secret)
+  pub power-up-is : power-up (s .firmware) (s .ring) (s .fram) (power-call u a)
+      ≡ begin (power-up-stop (s .firmware) (s .ring) (s .fram) (power-call u a)) (u .key) (power-up-draft (s .firmware .form) (u .key) (a .nonce) c)
+      (resuming-job u s (power-up-draft (s .firmware .form) (u .key) (a .nonce) c)) (a .staging) (a .state) (c .secret)
   unfolding power-up resumed power-up-draft
   power-up-is = λ i. F (opened i) (phase i) (half i) (page i) (slot i)
     where
       F : Checkpoint → Phase → ℕ → ℕ → ℕ → Begin
-      F old phase half page slot = begin (power-up-stop (s .form) (s .ring) (s .fram) (power-call u a)) (u .key) (resumed (s .form) (u .key) (a .nonce) old)
-          (job-of (u .key) (resumed (s .form) (u .key) (a .nonce) old) phase PowerUp half page slot) (a .staging) (a .state) (old .secret)
+      F old phase half page slot = begin (power-up-stop (s .firmware) (s .ring) (s .fram) (power-call u a)) (u .key) (resumed (s .firmware .form) (u .key) (a .nonce) old)
+          (job-of (u .key) (resumed (s .firmware .form) (u .key) (a .nonce) old) phase PowerUp half page slot) (a .staging) (a .state) (old .secret)
 
       phase : first-phase n ≡ first-phase (found (u .sizes .pages) (u .sizes .slots) (s .journal .count) (s .journal .owed))
       phase = ap (λ (m : Newest). first-phase m) reads-as
@@ -86,16 +86,16 @@ module _ (u : Setup) (s : State) (inv : Holds u s) (a : PowersUp) (c : Checkpoin
   begins false e = inl (e, refl)
 
   -- the state after a power-up that begins
-  pub resuming-holds : length (a .nonce) ≡ nonce-length → half-length (s .fram) ≤ length (a .staging) → (List·Memᴰ (a .nonce) (s .nonces) → ⊥) → (c .restarts ≡ restart-limit → ⊥)
-      → sealed-length (s .form) (length (c .open-part)) (length (c .secret)) ≤ half-length (s .fram)
-      → Holds u (started u s (power-up-draft (s .form) (u .key) (a .nonce) c) PowerUp (s .journal .power-ups + 1) (resuming-job u s (power-up-draft (s .form) (u .key) (a .nonce) c)) (a .staging))
+  pub resuming-holds : fram-wrong (s .firmware .largest-fram) (s .fram) ≡ false → length (a .nonce) ≡ nonce-length → half-length (s .fram) ≤ length (a .staging) → (List·Memᴰ (a .nonce) (s .nonces) → ⊥) → (c .restarts ≡ restart-limit → ⊥)
+      → sealed-length (s .firmware .form) (length (c .open-part)) (length (c .secret)) ≤ half-length (s .fram)
+      → Holds u (started u s (power-up-draft (s .firmware .form) (u .key) (a .nonce) c) PowerUp (s .journal .power-ups + 1) (resuming-job u s (power-up-draft (s .firmware .form) (u .key) (a .nonce) c)) (a .staging))
   unfolding power-up-draft
-  resuming-holds l long new few fits =
-      start-holds u s inv (power-up-draft (s .form) (u .key) (a .nonce) c) PowerUp (first-phase (found (u .sizes .pages) (u .sizes .slots) (s .journal .count) (s .journal .owed)))
+  resuming-holds framed l long new few fits =
+      start-holds u s inv (power-up-draft (s .firmware .form) (u .key) (a .nonce) c) PowerUp (first-phase (found (u .sizes .pages) (u .sizes .slots) (s .journal .count) (s .journal .owed)))
       (half-of (s .journal .count + 1)) (page-in u (s .journal .count + 1)) (slot-in u (s .journal .count + 1)) (a .staging)
-      good refl new long refl refl refl (s .journal .power-ups + 1) (ap (λ (k : ℕ). k + 1) (r .restarts-are)) (begins (s .journal .owed) refl)
+      good refl (inv .reads-entry c (r .entry-is) .1) framed new long refl refl refl (s .journal .power-ups + 1) (ap (λ (k : ℕ). k + 1) (r .restarts-are)) (begins (s .journal .owed) refl)
     where
-      good : Good (power-up-draft (s .form) (u .key) (a .nonce) c) (half-length (s .fram))
+      good : Good (power-up-draft (s .firmware .form) (u .key) (a .nonce) c) (half-length (s .fram))
       good = record {
         range = record {
           open-whole = r .good .range .open-whole;
@@ -103,53 +103,55 @@ module _ (u : Setup) (s : State) (inv : Holds u s) (a : PowersUp) (c : Checkpoin
           secret-whole = r .good .range .secret-whole;
           secret-small = r .good .range .secret-small;
           restarts-small = omega (arith, r .good .range .restarts-small, few);
-          packet-small = numbered-read (s .form) (c .form) (c .packet) (inv .reads-entry c (r .entry-is)) (r .good .range .packet-small);
+          packet-small = numbered-read (s .firmware .form) (c .form) (c .packet) (inv .reads-entry c (r .entry-is) .0) (r .good .range .packet-small);
           previous-long = length-own-tag (u .key) c;
         };
         nonce-long = l;
         fits = fits;
       }
 
-  resumed-draft : resumed-entry (s .form) (u .key) (a .nonce) (s .journal .entry) (s .journal) (u .sizes .slots)
-      ≡ drafted (u .key) (u .sizes .slots) PowerUp (power-up-draft (s .form) (u .key) (a .nonce) c) (s .journal .power-ups + 1) (s .journal)
+  resumed-draft : resumed-entry (s .firmware .form) (u .key) (a .nonce) (s .journal .entry) (s .journal) (u .sizes .slots)
+      ≡ drafted (u .key) (u .sizes .slots) PowerUp (power-up-draft (s .firmware .form) (u .key) (a .nonce) c) (s .journal .power-ups + 1) (s .journal)
   unfolding resumed-entry
-  resumed-draft = ap (λ (o : Option Checkpoint). resumed-entry (s .form) (u .key) (a .nonce) o (s .journal) (u .sizes .slots)) (r .entry-is)
+  resumed-draft = ap (λ (o : Option Checkpoint). resumed-entry (s .firmware .form) (u .key) (a .nonce) o (s .journal) (u .sizes .slots)) (r .entry-is)
 
-  pub step-is : power-up-stop (s .form) (s .ring) (s .fram) (power-call u a) ≡ none
+  pub step-is : power-up-stop (s .firmware) (s .ring) (s .fram) (power-call u a) ≡ none
       → step u s (powered-up (power-call u a))
-      ≡ started u s (power-up-draft (s .form) (u .key) (a .nonce) c) PowerUp (s .journal .power-ups + 1) (resuming-job u s (power-up-draft (s .form) (u .key) (a .nonce) c)) (a .staging)
+      ≡ started u s (power-up-draft (s .firmware .form) (u .key) (a .nonce) c) PowerUp (s .journal .power-ups + 1) (resuming-job u s (power-up-draft (s .firmware .form) (u .key) (a .nonce) c)) (a .staging)
   unfolding step left-by entered refused power-up-draft
   step-is e =
       ap (λ (b : Begin). begun s (b .answer) b (a .nonce)
-      (cond (is-stop (b .answer)) (s .journal) (resumed-entry (s .form) (u .key) (a .nonce) (s .journal .entry) (s .journal) (u .sizes .slots)))) power-up-is
-      ∙ begun-none s (power-up-stop (s .form) (s .ring) (s .fram) (power-call u a)) _ _ _ _ _ _ _ _ e
+      (cond (is-stop (b .answer)) (s .journal) (resumed-entry (s .firmware .form) (u .key) (a .nonce) (s .journal .entry) (s .journal) (u .sizes .slots)))) power-up-is
+      ∙ begun-none s (power-up-stop (s .firmware) (s .ring) (s .fram) (power-call u a)) _ _ _ _ _ _ _ _ e
       ∙ ap (λ (j : Journal). record {
         ring = s .ring;
         fram = s .fram;
-        handed = some (record { job = resuming-job u s (power-up-draft (s .form) (u .key) (a .nonce) c); staging = put (a .staging) 0 (sealed (u .key) (power-up-draft (s .form) (u .key) (a .nonce) c)) });
+        handed = some (record { job = resuming-job u s (power-up-draft (s .firmware .form) (u .key) (a .nonce) c); staging = put (a .staging) 0 (sealed (u .key) (power-up-draft (s .firmware .form) (u .key) (a .nonce) c)) });
         sessions = s .sessions;
         nonces = a .nonce ∷ s .nonces;
         journal = j;
-        form = s .form;
+        firmware = s .firmware;
       }) resumed-draft
 
 -- ---- the conditions
 
-record PowerUpPasses (u : Setup) (form : Form) (ring fram : List ℕ) (a : PowersUp) : Type 0 where
+record PowerUpPasses (u : Setup) (firmware : Firmware) (ring fram : List ℕ) (a : PowersUp) : Type 0 where
+  fram-fits : fram-wrong (firmware .largest-fram) fram ≡ false
   nonce-long : length (a .nonce) ≡ nonce-length
   staging-long : half-length fram ≤ length (a .staging)
   in-use : is-blank (read-ring ring (u .sizes .pages) (u .sizes .slots)) ≡ false
-  few : let half = newest-half ring fram (u .sizes .slots) (read-ring ring (u .sizes .pages) (u .sizes .slots)) in eqb (stored-restarts (read-as form half) half) restart-limit ≡ false
-  fits : outgrows form (newest-half ring fram (u .sizes .slots) (read-ring ring (u .sizes .pages) (u .sizes .slots))) ≡ false
+  few : let half = newest-half ring fram (u .sizes .slots) (read-ring ring (u .sizes .pages) (u .sizes .slots)) in eqb (stored-restarts (read-as (firmware .form) half) half) restart-limit ≡ false
+  fits : outgrows (firmware .form) (newest-half ring fram (u .sizes .slots) (read-ring ring (u .sizes .pages) (u .sizes .slots))) ≡ false
 
-power-passes : (u : Setup) (form : Form) (ring fram : List ℕ) (a : PowersUp) → power-up-stop form ring fram (power-call u a) ≡ none → PowerUpPasses u form ring fram a
+power-passes : (u : Setup) (firmware : Firmware) (ring fram : List ℕ) (a : PowersUp) → power-up-stop firmware ring fram (power-call u a) ≡ none → PowerUpPasses u firmware ring fram a
 unfolding power-up-stop staging-wrong
-power-passes u form ring fram a e =
+power-passes u firmware ring fram a e =
     let p = passes _ e in
     let lengths = neither (key-wrong (length (u .key))) (nonce-wrong (length (a .nonce))) (p .1 .1 .0) in
     let buffers = neither _ _ (p .1 .1 .1 .0) in
     let found = p .1 .1 .1 .1 in
     record {
+      fram-fits = p .1 .0;
       nonce-long = eqb-true (length (a .nonce)) nonce-length (not-false _ (lengths .1));
       staging-long = ltb-false (length (a .staging)) (half-length fram) (buffers .0);
       in-use = found .0;
@@ -157,29 +159,29 @@ power-passes u form ring fram a e =
       fits = found .1 .1 .1 .1 .1 .1 .0;
     }
 
-module _ (u : Setup) (s : State) (inv : Holds u s) (c : Checkpoint) (r : Entry u s c) (p : PowersUp) (e : PowerUpPasses u (s .form) (s .ring) (s .fram) p) where
+module _ (u : Setup) (s : State) (inv : Holds u s) (c : Checkpoint) (r : Entry u s c) (p : PowersUp) (e : PowerUpPasses u (s .firmware) (s .ring) (s .fram) p) where
   few-restarts : c .restarts ≡ restart-limit → ⊥
   few-restarts = eqb-false (c .restarts) restart-limit
-      (ap (λ (k : ℕ). eqb k restart-limit) (sym (restarts-found (inv .fram-right) r (s .form) (inv .reads-entry c (r .entry-is))))
-      ∙ ap (λ (m : Newest). let half = newest-half (s .ring) (s .fram) (u .sizes .slots) m in eqb (stored-restarts (read-as (s .form) half) half) restart-limit) (sym (reads (inv .fram-right) r)) ∙ e .few)
+      (ap (λ (k : ℕ). eqb k restart-limit) (sym (restarts-found (inv .fram-right) r (s .firmware) (inv .reads-entry c (r .entry-is))))
+      ∙ ap (λ (m : Newest). let half = newest-half (s .ring) (s .fram) (u .sizes .slots) m in eqb (stored-restarts (read-as (s .firmware .form) half) half) restart-limit) (sym (reads (inv .fram-right) r)) ∙ e .few)
 
-  resealed-fits : sealed-length (s .form) (length (c .open-part)) (length (c .secret)) ≤ half-length (s .fram)
-  resealed-fits = ltb-false (half-length (s .fram)) (sealed-length (s .form) (length (c .open-part)) (length (c .secret)))
-      (sym (outgrows-found (inv .fram-right) r (s .form) (inv .reads-entry c (r .entry-is)))
-      ∙ ap (λ (m : Newest). outgrows (s .form) (newest-half (s .ring) (s .fram) (u .sizes .slots) m)) (sym (reads (inv .fram-right) r)) ∙ e .fits)
+  resealed-fits : sealed-length (s .firmware .form) (length (c .open-part)) (length (c .secret)) ≤ half-length (s .fram)
+  resealed-fits = ltb-false (half-length (s .fram)) (sealed-length (s .firmware .form) (length (c .open-part)) (length (c .secret)))
+      (sym (outgrows-found (inv .fram-right) r (s .firmware) (inv .reads-entry c (r .entry-is)))
+      ∙ ap (λ (m : Newest). outgrows (s .firmware .form) (newest-half (s .ring) (s .fram) (u .sizes .slots) m)) (sym (reads (inv .fram-right) r)) ∙ e .fits)
 
 module _ (u : Setup) (s : State) (inv : Holds u s) (a : PowersUp) (new : List·Memᴰ (a .nonce) (s .nonces) → ⊥) where
-  power-go : (o : Option ℕ) → power-up-stop (s .form) (s .ring) (s .fram) (power-call u a) ≡ o → Holds u (step u s (powered-up (power-call u a)))
+  power-go : (o : Option ℕ) → power-up-stop (s .firmware) (s .ring) (s .fram) (power-call u a) ≡ o → Holds u (step u s (powered-up (power-call u a)))
   unfolding step left-by entered refused power-up
-  power-go (some x) e = rw (begun-stopped s (power-up-stop (s .form) (s .ring) (s .fram) (power-call u a)) _ _ _ _ _ _ _ _ x e) inv
+  power-go (some x) e = rw (begun-stopped s (power-up-stop (s .firmware) (s .ring) (s .fram) (power-call u a)) _ _ _ _ _ _ _ _ x e) inv
   power-go none e =
-      let p = power-passes u (s .form) (s .ring) (s .fram) a e in
+      let p = power-passes u (s .firmware) (s .ring) (s .fram) a e in
       let x = in-use-recorded u s inv (p .in-use) in
       subst (λ (t : State). Holds u t) (sym (step-is u s inv a (x .0) (x .1) e))
-      (resuming-holds u s inv a (x .0) (x .1) (p .nonce-long) (p .staging-long) new (few-restarts u s inv (x .0) (x .1) a p) (resealed-fits u s inv (x .0) (x .1) a p))
+      (resuming-holds u s inv a (x .0) (x .1) (p .fram-fits) (p .nonce-long) (p .staging-long) new (few-restarts u s inv (x .0) (x .1) a p) (resealed-fits u s inv (x .0) (x .1) a p))
 
 pub hold-powered-up : (u : Setup) (s : State) (a : PowersUp) → Holds u s → Keeps u s (powered-up a) → Holds u (step u s (powered-up a))
 unfolding Keeps
 hold-powered-up u s a inv (p, q, f) =
     let path : power-call u a ≡ a = λ i. record { sizes = sym p i; key = sym q i; nonce = a .nonce; staging = a .staging; state = a .state } in
-    subst (λ (b : PowersUp). Holds u (step u s (powered-up b))) path (power-go u s inv a f (power-up-stop (s .form) (s .ring) (s .fram) (power-call u a)) refl)
+    subst (λ (b : PowersUp). Holds u (step u s (powered-up b))) path (power-go u s inv a f (power-up-stop (s .firmware) (s .ring) (s .fram) (power-call u a)) refl)

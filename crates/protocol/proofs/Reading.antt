@@ -16,12 +16,13 @@ use Rattle.ring.proofs.FoundLaws.{found, read-is, record-is, used-is, targets}
 use Rattle.ring.proofs.RecordLaws.{half-named-of, nonce-of-record}
 use Rattle.checkpoint.specs.Checkpoint.{Form, Checkpoint, sealed, sealed-length}
 use Rattle.checkpoint.specs.Half.{read-as, open-length, secret-length, stored-open, good-head, good-tag, stored, stored-restarts}
-use Rattle.checkpoint.specs.Fram.{fram-wrong, half-length, half-at}
-use Rattle.checkpoint.proofs.HalfLaws.{Reads, read-as-is, open-length-is, secret-length-is, restarts-is, open-is, head-passes, tag-passes, read-back}
-use Rattle.checkpoint.proofs.FramLaws.{half-begins, half-long}
+use Rattle.checkpoint.specs.Fram.{half-length, half-at}
+use Rattle.checkpoint.proofs.HalfLaws.{read-as-is, open-length-is, secret-length-is, restarts-is, open-is, head-passes, tag-passes, read-back}
+use Rattle.checkpoint.proofs.FramLaws.{Image, half-begins, half-long}
+use Rattle.protocol.specs.Types.{Firmware}
 use Rattle.protocol.specs.Calls.{Setup}
 use Rattle.protocol.specs.Operations.{newest-half, outgrows}
-use Rattle.protocol.proofs.Invariant.{sealed-fits, half-of, page-in, slot-in, Recorded}
+use Rattle.protocol.proofs.Invariant.{sealed-fits, half-of, page-in, slot-in, ReadBy, Recorded}
 
 none-used : (nonce : List ℕ) (nonces : List (List ℕ)) → (List·Memᴰ nonce nonces → ⊥) → (recs : List (List ℕ))
     → ((r : List ℕ) → List·Memᴰ r recs → List·Memᴰ (take nonce-length r) nonces) → any (λ r. same (take nonce-length r) nonce) recs ≡ false
@@ -34,7 +35,7 @@ none-used nonce nonces f (r ∷ rs) k = go (none-used nonce nonces f rs (λ q m.
     go ih false e = rw e ih
 
 module _ {u : Setup} {ring fram : List ℕ} {nonces : List (List ℕ)} {entry : Option Checkpoint} {count : ℕ} {owed : Bool} {power-ups : ℕ} {c : Checkpoint}
-    (right : fram-wrong fram ≡ false) (r : Recorded u ring fram nonces entry count owed power-ups c) where
+    (right : Image fram) (r : Recorded u ring fram nonces entry count owed power-ups c) where
   abbrev newest : Newest
   newest = found (u .sizes .pages) (u .sizes .slots) count owed
 
@@ -76,34 +77,34 @@ module _ {u : Setup} {ring fram : List ℕ} {nonces : List (List ℕ)} {entry : 
   unfolding newest-half
   half-size = rw half-found (half-long fram (half-of count) right (omega arith))
 
-  -- firmware of a form that reads the checkpoint's head
-  module _ (form : Form) (read : Reads form (c .form)) where
-    pub read-found : read-as form (newest-half ring fram (u .sizes .slots) newest) ≡ c .form
-    read-found = ap (λ (h : List ℕ). read-as form h) newest-half-is ∙ read-as-is (u .key) c behind (r .good .range) form read
+  -- firmware that reads the checkpoint
+  module _ (firmware : Firmware) (read : ReadBy firmware c) where
+    pub read-found : read-as (firmware .form) (newest-half ring fram (u .sizes .slots) newest) ≡ c .form
+    read-found = ap (λ (h : List ℕ). read-as (firmware .form) h) newest-half-is ∙ read-as-is (u .key) c behind (r .good .range) (firmware .form) (read .0)
 
     -- what is read of the half is read of the sealed checkpoint in its own form
-    at-half : {A : Type 0} (f : Form → List ℕ → A) → f (read-as form (newest-half ring fram (u .sizes .slots) newest)) (newest-half ring fram (u .sizes .slots) newest) ≡ f (c .form) (sealed (u .key) c ++ behind)
+    at-half : {A : Type 0} (f : Form → List ℕ → A) → f (read-as (firmware .form) (newest-half ring fram (u .sizes .slots) newest)) (newest-half ring fram (u .sizes .slots) newest) ≡ f (c .form) (sealed (u .key) c ++ behind)
     at-half f = λ i. f (read-found i) (newest-half-is i)
 
-    pub head-found : good-head (read-as form (newest-half ring fram (u .sizes .slots) newest)) (newest-half ring fram (u .sizes .slots) newest) ≡ true
-    head-found = at-half good-head ∙ head-passes (u .key) c behind (r .good .range)
+    pub head-found : good-head (firmware .longest-part) (read-as (firmware .form) (newest-half ring fram (u .sizes .slots) newest)) (newest-half ring fram (u .sizes .slots) newest) ≡ true
+    head-found = at-half (good-head (firmware .longest-part)) ∙ head-passes (u .key) c behind (r .good .range) (firmware .longest-part) (read .1 .0) (read .1 .1)
 
-    pub tag-found : good-tag (read-as form (newest-half ring fram (u .sizes .slots) newest)) (u .key) (take nonce-length (newest-record ring (u .sizes .slots) newest)) (newest-half ring fram (u .sizes .slots) newest) ≡ true
+    pub tag-found : good-tag (read-as (firmware .form) (newest-half ring fram (u .sizes .slots) newest)) (u .key) (take nonce-length (newest-record ring (u .sizes .slots) newest)) (newest-half ring fram (u .sizes .slots) newest) ≡ true
     tag-found = (λ i. good-tag (read-found i) (u .key) (nonce-found i) (newest-half-is i)) ∙ tag-passes (u .key) c behind (r .good .range)
 
-    pub restarts-found : stored-restarts (read-as form (newest-half ring fram (u .sizes .slots) newest)) (newest-half ring fram (u .sizes .slots) newest) ≡ c .restarts
+    pub restarts-found : stored-restarts (read-as (firmware .form) (newest-half ring fram (u .sizes .slots) newest)) (newest-half ring fram (u .sizes .slots) newest) ≡ c .restarts
     restarts-found = at-half stored-restarts ∙ restarts-is (u .key) c behind (r .good .range)
 
-    pub open-length-found : open-length (read-as form (newest-half ring fram (u .sizes .slots) newest)) (newest-half ring fram (u .sizes .slots) newest) ≡ length (c .open-part)
+    pub open-length-found : open-length (read-as (firmware .form) (newest-half ring fram (u .sizes .slots) newest)) (newest-half ring fram (u .sizes .slots) newest) ≡ length (c .open-part)
     open-length-found = at-half open-length ∙ open-length-is (u .key) c behind (r .good .range)
 
-    pub open-found : stored-open (read-as form (newest-half ring fram (u .sizes .slots) newest)) (newest-half ring fram (u .sizes .slots) newest) ≡ c .open-part
+    pub open-found : stored-open (read-as (firmware .form) (newest-half ring fram (u .sizes .slots) newest)) (newest-half ring fram (u .sizes .slots) newest) ≡ c .open-part
     open-found = at-half stored-open ∙ open-is (u .key) c behind (r .good .range)
 
-    pub checkpoint-found : stored (read-as form (newest-half ring fram (u .sizes .slots) newest)) (u .key) (take nonce-length (newest-record ring (u .sizes .slots) newest)) (newest-half ring fram (u .sizes .slots) newest) ≡ c
+    pub checkpoint-found : stored (read-as (firmware .form) (newest-half ring fram (u .sizes .slots) newest)) (u .key) (take nonce-length (newest-record ring (u .sizes .slots) newest)) (newest-half ring fram (u .sizes .slots) newest) ≡ c
     checkpoint-found = (λ i. stored (read-found i) (u .key) (nonce-found i) (newest-half-is i)) ∙ read-back (u .key) c behind (r .good .range)
 
     -- sealed anew, it outgrows the half or not
-    pub outgrows-found : outgrows form (newest-half ring fram (u .sizes .slots) newest) ≡ ltb (half-length fram) (sealed-length form (length (c .open-part)) (length (c .secret)))
+    pub outgrows-found : outgrows (firmware .form) (newest-half ring fram (u .sizes .slots) newest) ≡ ltb (half-length fram) (sealed-length (firmware .form) (length (c .open-part)) (length (c .secret)))
     unfolding outgrows
-    outgrows-found = λ i. ltb (half-size i) (sealed-length form (open-length-found i) ((at-half secret-length ∙ secret-length-is (u .key) c behind (r .good .range)) i))
+    outgrows-found = λ i. ltb (half-size i) (sealed-length (firmware .form) (open-length-found i) ((at-half secret-length ∙ secret-length-is (u .key) c behind (r .good .range)) i))

@@ -19,7 +19,8 @@ use Rattle.ring.proofs.RingLaws.{Ringed, page-of, slot-of, last, joined, target
 use Rattle.ring.proofs.SizeLaws.{sized}
 use Rattle.ring.proofs.RecordLaws.{is-record-of, length-record, nonce-of-record}
 use Rattle.checkpoint.specs.Checkpoint.{Form, Checkpoint, sealed}
-use Rattle.checkpoint.proofs.HalfLaws.{Reads, reads-own}
+use Rattle.checkpoint.specs.Half.{Reads}
+use Rattle.checkpoint.proofs.HalfLaws.{reads-own}
 use Rattle.checkpoint.specs.Half.{stored}
 use Rattle.checkpoint.specs.Fram.{half-length}
 use Rattle.protocol.specs.Types.{Session, Phase, Record, EraseAfter, Done}
@@ -28,7 +29,7 @@ use Rattle.protocol.specs.Operations.{Moved, job-record, session-of, in-
 use Rattle.protocol.specs.Journal.{Journal, Draft, Store, erase, erase-if, to-come, made, advanced}
 use Rattle.protocol.specs.History.{State, Handed}
 use Rattle.protocol.proofs.Facts.{no-fact}
-use Rattle.protocol.proofs.Invariant.{draft-of, Good, session-in, half-of, page-in, slot-in, DurableAt, Recorded, Durable, Working, last-erase, Recording, Matches, Holds, Moving}
+use Rattle.protocol.proofs.Invariant.{ReadBy, draft-of, Good, session-in, half-of, page-in, slot-in, DurableAt, Recorded, Durable, Working, last-erase, Recording, Matches, Holds, Moving}
 use Rattle.protocol.proofs.Advances.{Moves, call, after, advance-stores, after-going, after-ended, working-on, doing-of}
 
 last-snoc : (rs : List (List ℕ)) (r : List ℕ) → last (rs ++ r ∷ []) ≡ r
@@ -251,7 +252,7 @@ module _ {u : Setup} {s : State} {h : Handed} (inv : Holds u s) (x : Recording u
     next-slot-blank owing,
   )
 
-  recording-moves : h .job .phase ≡ Record → (b : Bool) → full (u .sizes .slots) (s .journal .count) ≡ b → advance (s .form) (s .ring) (s .fram) (call u h)
+  recording-moves : h .job .phase ≡ Record → (b : Bool) → full (u .sizes .slots) (s .journal .count) ≡ b → advance (s .firmware) (s .ring) (s .fram) (call u h)
       ≡ cond b (going-on (h .job) (EraseAfter (page-before (u .sizes .pages) (page-in u (s .journal .count + 1)))) new (s .fram)) (ended (h .job) new (s .fram))
   unfolding store
   recording-moves e b f =
@@ -270,11 +271,11 @@ module _ {u : Setup} {s : State} {h : Handed} (inv : Holds u s) (x : Recording u
       → take nonce-length (z .latest) ≡ c .nonce → Matches u z c
   none-match z m c e l = absurd (x .before .unlike z m (let q : x .before .working .c ≡ c = cc in l ∙ ap (λ (y : Checkpoint). y .nonce) (sym q)))
 
-  -- the firmware reads the head that it wrote
-  pub now-reads : (c : Checkpoint) → _≡_ {A = Option Checkpoint} (some (x .before .working .c)) (some c) → Reads (s .form) (c .form)
+  -- the firmware reads what it wrote
+  pub now-reads : (c : Checkpoint) → _≡_ {A = Option Checkpoint} (some (x .before .working .c)) (some c) → ReadBy (s .firmware) c
   now-reads c e =
       let q : x .before .working .c ≡ c = cc in
-      subst (λ (y : Checkpoint). Reads (s .form) (y .form)) q (subst (λ (f : Form). Reads (s .form) f) (sym (x .before .working .form-is)) (reads-own (s .form)))
+      subst (λ (y : Checkpoint). ReadBy (s .firmware) y) q (subst (λ (f : Form). Reads (s .firmware .form) f) (sym (x .before .working .form-is)) (reads-own (s .firmware .form)), x .before .working .small)
 
   recording-go : h .job .phase ≡ Record → (b : Bool) → full (u .sizes .slots) (s .journal .count) ≡ b
       → Moves u s h (x .before .working .c) (x .before .working .origin) (erase-if b)

@@ -9,21 +9,23 @@ use native.Mathlib.Omega.{arith}
 use lib.ListN.{length}
 use lib.Dec.{eqb, ltb}
 use borrow.Author.Tests.{eq-eqb, ne-eqb, le-ltb, lt-ltb, eqb-true, eqb-false, ltb-true, ltb-false}
-use Rattle.octets.specs.Limits.{part-limit, restart-limit, key-length, nonce-length}
+use Rattle.octets.specs.Limits.{restart-limit, key-length, nonce-length}
 use Rattle.octets.specs.Octets.{put, blank}
 use Rattle.stops.specs.Stops.{first-of}
 use Rattle.ring.specs.Ring.{ring-wrong}
 use Rattle.ring.proofs.RingLaws.{read-blank}
 use Rattle.ring.proofs.FoundLaws.{not-blank, not-unreadable}
-use Rattle.checkpoint.specs.Checkpoint.{Form, Checkpoint, sealed, sealed-length}
+use Rattle.checkpoint.proofs.FramLaws.{an-image, wrong-at-any, fram-kept}
+use Rattle.checkpoint.specs.Checkpoint.{Checkpoint, sealed, sealed-length}
 use Rattle.checkpoint.proofs.SealedLaws.{length-sealed, length-own-tag}
 use Rattle.checkpoint.specs.Fram.{fram-wrong, half-length}
-use Rattle.protocol.specs.Types.{PowerUp, Begun, Stopped}
+use Rattle.protocol.specs.Types.{Firmware, PowerUp, Begun, Stopped}
 use Rattle.protocol.specs.Calls.{PowersUp, Setup, Event, powered-up}
 use Rattle.protocol.specs.Operations.{key-wrong, nonce-wrong, staging-wrong, state-wrong, Begin, begin, power-up-stop, power-up}
 use Rattle.protocol.specs.Journal.{Store, drafted, stores-of, power-up-draft}
 use Rattle.protocol.specs.History.{State, fresh, step, run, Allowed}
 use Rattle.protocol.specs.Recovery.{Exactly, Fits, Last, answers, Resumes, Outgrown, Outcome, Recovery}
+use Rattle.protocol.proofs.Lengths.{run-kept}
 use Rattle.protocol.proofs.Invariant.{draft-of, DurableAt, Untouched, Holds, Ended}
 use Rattle.protocol.proofs.Reading.{reads, new-nonce, head-found, tag-found, restarts-found, outgrows-found}
 use Rattle.protocol.proofs.Starts.{started}
@@ -34,46 +36,47 @@ use Rattle.protocol.proofs.Looking.{seen}
 
 -- ---- what the last power-up answers
 
-module _ (u : Setup) (s : State) (inv : Holds u s) (a : PowersUp) (key-long : length (u .key) ≡ key-length) (l : Last u s (power-call u a)) where
+module _ (u : Setup) (s : State) (inv : Holds u s) (a : PowersUp) (key-long : length (u .key) ≡ key-length)
+    (framed : fram-wrong (s .firmware .largest-fram) (s .fram) ≡ false) (l : Last u s (power-call u a)) where
   abbrev stop : Option ℕ
-  stop = power-up-stop (s .form) (s .ring) (s .fram) (power-call u a)
+  stop = power-up-stop (s .firmware) (s .ring) (s .fram) (power-call u a)
 
   sizes-pass : key-wrong (length (u .key)) || nonce-wrong (length (a .nonce)) ≡ false
   sizes-pass = rw (eq-eqb (length (u .key)) key-length key-long, eq-eqb (length (a .nonce)) nonce-length (l .nonce-long))
 
-  buffers-pass : staging-wrong (a .staging) (s .fram) || state-wrong (a .state) ≡ false
+  buffers-pass : staging-wrong (a .staging) (s .fram) || state-wrong (s .firmware) (a .state) ≡ false
   unfolding staging-wrong state-wrong
-  buffers-pass = rw (le-ltb (length (a .staging)) (half-length (s .fram)) (l .staging), le-ltb (length (a .state)) part-limit (l .state))
+  buffers-pass = rw (le-ltb (length (a .staging)) (half-length (s .fram)) (l .staging), le-ltb (length (a .state)) (s .firmware .longest-part) (l .state))
 
   stop-blank : blank (s .ring) ≡ true → stop ≡ some 6
   unfolding power-up-stop first-of
-  stop-blank b = rw (inv .ring-right, inv .fram-right, sizes-pass, buffers-pass, read-blank (u .sizes .pages) (u .sizes .slots) (s .ring) (inv .ring-right) b)
+  stop-blank b = rw (inv .ring-right, framed, sizes-pass, buffers-pass, read-blank (u .sizes .pages) (u .sizes .slots) (s .ring) (inv .ring-right) b)
 
   -- the entry sealed anew outgrows the half
   abbrev large : Checkpoint → Bool
-  large c = ltb (half-length (s .fram)) (sealed-length (s .form) (length (c .open-part)) (length (c .secret)))
+  large c = ltb (half-length (s .fram)) (sealed-length (s .firmware .form) (length (c .open-part)) (length (c .secret)))
 
   pub stop-recorded : (c : Checkpoint) → Entry u s c
-      → stop ≡ cond (eqb (c .restarts) restart-limit) (some 13) (cond (ltb (half-length (s .fram)) (sealed-length (s .form) (length (c .open-part)) (length (c .secret)))) (some 4) none)
+      → stop ≡ cond (eqb (c .restarts) restart-limit) (some 13) (cond (ltb (half-length (s .fram)) (sealed-length (s .firmware .form) (length (c .open-part)) (length (c .secret)))) (some 4) none)
   unfolding power-up-stop first-of
   stop-recorded c r =
       rw (
         inv .ring-right,
-        inv .fram-right,
+        framed,
         sizes-pass,
         buffers-pass,
         reads (inv .fram-right) r,
         not-blank (s .journal .owed) (u .sizes .pages) (u .sizes .slots) (s .journal .count),
         not-unreadable (s .journal .owed) (u .sizes .pages) (u .sizes .slots) (s .journal .count),
         new-nonce (inv .fram-right) r (a .nonce) (l .nonce-new),
-        head-found (inv .fram-right) r (s .form) (inv .reads-entry c (r .entry-is)),
-        tag-found (inv .fram-right) r (s .form) (inv .reads-entry c (r .entry-is)),
-        restarts-found (inv .fram-right) r (s .form) (inv .reads-entry c (r .entry-is)),
-        outgrows-found (inv .fram-right) r (s .form) (inv .reads-entry c (r .entry-is)),
+        head-found (inv .fram-right) r (s .firmware) (inv .reads-entry c (r .entry-is)),
+        tag-found (inv .fram-right) r (s .firmware) (inv .reads-entry c (r .entry-is)),
+        restarts-found (inv .fram-right) r (s .firmware) (inv .reads-entry c (r .entry-is)),
+        outgrows-found (inv .fram-right) r (s .firmware) (inv .reads-entry c (r .entry-is)),
       )
 
   -- with nothing recorded
-  pub answer-stopped : (x : ℕ) → stop ≡ some x → power-up (s .form) (s .ring) (s .fram) (power-call u a) .answer ≡ Stopped x
+  pub answer-stopped : (x : ℕ) → stop ≡ some x → power-up (s .firmware) (s .ring) (s .fram) (power-call u a) .answer ≡ Stopped x
   unfolding power-up begin
   answer-stopped x e = rw e
 
@@ -100,14 +103,14 @@ module _ (u : Setup) (s : State) (inv : Holds u s) (a : PowersUp) (key-long : le
 
   -- the length of the entry sealed anew
   pub resealed-long : (c : Checkpoint) → Entry u s c
-      → length (sealed (u .key) (power-up-draft (s .form) (u .key) (a .nonce) c)) ≡ sealed-length (s .form) (length (c .open-part)) (length (c .secret))
+      → length (sealed (u .key) (power-up-draft (s .firmware .form) (u .key) (a .nonce) c)) ≡ sealed-length (s .firmware .form) (length (c .open-part)) (length (c .secret))
   unfolding power-up-draft
-  resealed-long c r = length-sealed (u .key) (power-up-draft (s .form) (u .key) (a .nonce) c) (length-own-tag (u .key) c)
+  resealed-long c r = length-sealed (u .key) (power-up-draft (s .firmware .form) (u .key) (a .nonce) c) (length-own-tag (u .key) c)
 
   outcome-outgrown : (c : Checkpoint) → Entry u s c → (c .restarts ≡ restart-limit → ⊥)
-      → half-length (s .fram) < sealed-length (s .form) (length (c .open-part)) (length (c .secret)) → Outcome u s (power-call u a)
+      → half-length (s .fram) < sealed-length (s .firmware .form) (length (c .open-part)) (length (c .secret)) → Outcome u s (power-call u a)
   outcome-outgrown c r few large-one =
-      let w : large c ≡ true = lt-ltb (half-length (s .fram)) (sealed-length (s .form) (length (c .open-part)) (length (c .secret))) large-one in
+      let w : large c ≡ true = lt-ltb (half-length (s .fram)) (sealed-length (s .firmware .form) (length (c .open-part)) (length (c .secret))) large-one in
       let e = answer-stopped 4 (stop-recorded c r ∙ (λ i. cond (ne-eqb (c .restarts) restart-limit few i) (some 13) (cond (w i) (some 4) none))) in
       let p = r .entry-is in
       let g : Outgrown u s (power-call u a) c = rw (resealed-long c r) large-one in
@@ -119,22 +122,22 @@ module _ (u : Setup) (s : State) (inv : Holds u s) (a : PowersUp) (key-long : le
       }
 
   module _ (c : Checkpoint) (r : Entry u s c) (few : c .restarts ≡ restart-limit → ⊥)
-      (fits : sealed-length (s .form) (length (c .open-part)) (length (c .secret)) ≤ half-length (s .fram)) where
+      (fits : sealed-length (s .firmware .form) (length (c .open-part)) (length (c .secret)) ≤ half-length (s .fram)) where
     pub stop-none : stop ≡ none
     stop-none =
-        let w : large c ≡ false = le-ltb (half-length (s .fram)) (sealed-length (s .form) (length (c .open-part)) (length (c .secret))) fits in
+        let w : large c ≡ false = le-ltb (half-length (s .fram)) (sealed-length (s .firmware .form) (length (c .open-part)) (length (c .secret))) fits in
         stop-recorded c r ∙ (λ i. cond (ne-eqb (c .restarts) restart-limit few i) (some 13) (cond (w i) (some 4) none))
 
-    pub power-up-begins : power-up (s .form) (s .ring) (s .fram) (power-call u a) ≡ record {
+    pub power-up-begins : power-up (s .firmware) (s .ring) (s .fram) (power-call u a) ≡ record {
       answer = Begun;
-      job = resuming-job u s (power-up-draft (s .form) (u .key) (a .nonce) c);
+      job = resuming-job u s (power-up-draft (s .firmware .form) (u .key) (a .nonce) c);
       secret-length = length (c .secret);
-      staging = put (a .staging) 0 (sealed (u .key) (power-up-draft (s .form) (u .key) (a .nonce) c));
+      staging = put (a .staging) 0 (sealed (u .key) (power-up-draft (s .firmware .form) (u .key) (a .nonce) c));
       state = put (a .state) 0 (c .secret);
     }
     unfolding begin
     power-up-begins = power-up-is u s inv a c r
-        ∙ ap (λ (o : Option ℕ). begin o (u .key) (power-up-draft (s .form) (u .key) (a .nonce) c) (resuming-job u s (power-up-draft (s .form) (u .key) (a .nonce) c)) (a .staging) (a .state) (c .secret)) stop-none
+        ∙ ap (λ (o : Option ℕ). begin o (u .key) (power-up-draft (s .firmware .form) (u .key) (a .nonce) c) (resuming-job u s (power-up-draft (s .firmware .form) (u .key) (a .nonce) c)) (a .staging) (a .state) (c .secret)) stop-none
 
     resumes-entry : Resumes u s (power-call u a) c
     unfolding drafted power-up-draft
@@ -149,7 +152,7 @@ module _ (u : Setup) (s : State) (inv : Holds u s) (a : PowersUp) (key-long : le
     }
       where
         new : Checkpoint
-        new = power-up-draft (s .form) (u .key) (a .nonce) c
+        new = power-up-draft (s .firmware .form) (u .key) (a .nonce) c
 
         t : State
         t = step u s (powered-up (power-call u a))
@@ -161,7 +164,7 @@ module _ (u : Setup) (s : State) (inv : Holds u s) (a : PowersUp) (key-long : le
         is = step-is u s inv a c r stop-none
 
         holds : Holds u t
-        holds = subst (λ (y : State). Holds u y) (sym is) (resuming-holds u s inv a c r (l .nonce-long) (l .staging) (l .nonce-new) few fits)
+        holds = subst (λ (y : State). Holds u y) (sym is) (resuming-holds u s inv a c r framed (l .nonce-long) (l .staging) (l .nonce-new) few fits)
 
         draft : t .journal .draft ≡ some (draft-of new PowerUp stores)
         draft = ap (λ (y : State). y .journal .draft) is ∙ (λ i. some (record { checkpoint = new; origin = PowerUp; power-ups = r .restarts-are i + 1; stores = stores }))
@@ -202,25 +205,33 @@ module _ (u : Setup) (s : State) (inv : Holds u s) (a : PowersUp) (key-long : le
       go (inl x) = outcome-blank x
       go (inr (c, r)) = cases c r (eqb (c .restarts) restart-limit) (large c) refl refl
 
-exactly-fresh : (u : Setup) (form : Form) (ring fram : List ℕ) → blank ring ≡ true → (events : List Event) → Allowed u (fresh form ring fram) events
-    → (x y : Bool) → ring-wrong (u .sizes .pages) (u .sizes .slots) ring ≡ x → fram-wrong fram ≡ y → Exactly u (fresh form ring fram) events
+exactly-fresh : (u : Setup) (firmware : Firmware) (ring fram : List ℕ) → blank ring ≡ true → (events : List Event) → Allowed u (fresh firmware ring fram) events
+    → (x y : Bool) → ring-wrong (u .sizes .pages) (u .sizes .slots) ring ≡ x → fram-wrong (length fram) fram ≡ y → Exactly u (fresh firmware ring fram) events
 unfolding fresh
-exactly-fresh u form ring fram b events k false false p q = exactly u events (fresh form ring fram) (hold-fresh u form ring fram p q b) k
-exactly-fresh u form ring fram b events k true y p q = exactly-unfit u events (fresh form ring fram) (record { wrong = inl p; none-handed = refl }) k
-exactly-fresh u form ring fram b events k false true p q = exactly-unfit u events (fresh form ring fram) (record { wrong = inr q; none-handed = refl }) k
+exactly-fresh u firmware ring fram b events k false false p q = exactly u events (fresh firmware ring fram) (hold-fresh u firmware ring fram p (an-image (length fram) fram q) b) k
+exactly-fresh u firmware ring fram b events k true y p q = exactly-unfit u events (fresh firmware ring fram) (record { wrong = inl p; none-handed = refl }) k
+exactly-fresh u firmware ring fram b events k false true p q = exactly-unfit u events (fresh firmware ring fram) (record { wrong = inr (wrong-at-any fram q); none-handed = refl }) k
 
 pub recovery : Recovery
-unfolding Recovery
-recovery u form ring fram b events k = (
-  exactly-fresh u form ring fram b events k (ring-wrong (u .sizes .pages) (u .sizes .slots) ring) (fram-wrong fram) refl refl,
-  λ f. (seen u (run u (fresh form ring fram) events) (held f) (f .key-right), after-list f),
+unfolding Recovery fresh
+recovery u firmware ring fram b events k = (
+  exactly-fresh u firmware ring fram b events k (ring-wrong (u .sizes .pages) (u .sizes .slots) ring) (fram-wrong (length fram) fram) refl refl,
+  λ f. (seen u s (held f) (framed f) (f .key-right), after-list f),
 )
   where
-    held : Fits u ring fram → Holds u (run u (fresh form ring fram) events)
-    held f = hold-run u events (fresh form ring fram) (hold-fresh u form ring fram (f .ring-right) (f .fram-right) b) k
+    s : State
+    s = run u (fresh firmware ring fram) events
 
-    after-list : Fits u ring fram → (a : PowersUp) → Last u (run u (fresh form ring fram) events) a → Outcome u (run u (fresh form ring fram) events) a
+    held : Fits u (s .firmware) ring fram → Holds u s
+    held f = hold-run u events (fresh firmware ring fram) (hold-fresh u firmware ring fram (f .ring-right) (an-image (s .firmware .largest-fram) fram (f .fram-right)) b) k
+
+    kept : Fits u (s .firmware) ring fram → length (s .fram) ≡ length fram
+    kept f = run-kept u events (fresh firmware ring fram) (hold-fresh u firmware ring fram (f .ring-right) (an-image (s .firmware .largest-fram) fram (f .fram-right)) b) k
+
+    framed : Fits u (s .firmware) ring fram → fram-wrong (s .firmware .largest-fram) (s .fram) ≡ false
+    framed f = fram-kept (s .firmware .largest-fram) fram (s .fram) (kept f) (f .fram-right)
+
+    after-list : Fits u (s .firmware) ring fram → (a : PowersUp) → Last u s a → Outcome u s a
     after-list f a l =
-        let s = run u (fresh form ring fram) events in
         let path : power-call u a ≡ a = λ i. record { sizes = sym (l .sizes) i; key = sym (l .key) i; nonce = a .nonce; staging = a .staging; state = a .state } in
-        subst (λ (y : PowersUp). Outcome u s y) path (outcome u s (held f) a (f .key-right) (subst (λ (y : PowersUp). Last u s y) (sym path) l))
+        subst (λ (y : PowersUp). Outcome u s y) path (outcome u s (held f) a (f .key-right) (framed f) (subst (λ (y : PowersUp). Last u s y) (sym path) l))

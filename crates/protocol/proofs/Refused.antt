@@ -8,7 +8,7 @@ use lib.Dec.{T}
 use Rattle.ring.specs.Ring.{page-before, page-erased}
 use Rattle.checkpoint.specs.Checkpoint.{Checkpoint}
 use Rattle.protocol.specs.Types.{Origin, Save, PowerUp, Job, Phase, EraseFirst, Words, Record, EraseAfter, Done}
-use Rattle.protocol.specs.Calls.{Advances, Setup, Event, first-saved, saved, powered-up, advanced-by, PowerLoss, Updated, lost-in-store}
+use Rattle.protocol.specs.Calls.{Advances, Setup, Event, first-saved, saved, powered-up, advanced-by, PowerLoss, updated-to, lost-in-store}
 use Rattle.protocol.specs.Operations.{Moved, advance-stop, going-on, finished, ended, recorded, erase-follows, after-record, store, advance-by, advance, begin, first-save, save, power-up}
 use Rattle.protocol.specs.Journal.{entered, Journal}
 use Rattle.protocol.specs.History.{State, begun, moved, left-by, step, is-stop, is-stopped, refused}
@@ -60,7 +60,7 @@ unfolding step left-by entered refused first-save save power-up advance
 step-refused u s (first-saved a) t = start-refused s _ _ _ _ _ _ _ _ _ t
 step-refused u s (saved a) t = start-refused s _ _ _ _ _ _ _ _ _ t
 step-refused u s (powered-up a) t = start-refused s _ _ _ _ _ _ _ _ _ t
-step-refused u s (advanced-by a) t = advance-refused s (advance-stop (s .form) (s .ring) (s .fram) a) a _ t
+step-refused u s (advanced-by a) t = advance-refused s (advance-stop (s .firmware) (s .ring) (s .fram) a) a _ t
 step-refused u s PowerLoss t = absurd t
-step-refused u s Updated t = absurd t
+step-refused u s (updated-to firmware) t = absurd t
 step-refused u s (lost-in-store left) t = absurd t

@@ -26,9 +26,9 @@ use Rattle.protocol.proofs.Blind.{blind}
 
 -- ---- what one advance leaves
 
--- the nonces and the firmware's form stay, and the FRAM is what the advance left
+-- the nonces and the firmware stay, and the FRAM is what the advance left
 moved-keeps : (s : State) (x : Progress) (m : Moved) (staging : List ℕ) (j : Journal)
-    → (moved s x m staging j .nonces ≡ s .nonces) × (moved s x m staging j .form ≡ s .form) × (moved s x m staging j .fram ≡ m .fram)
+    → (moved s x m staging j .nonces ≡ s .nonces) × (moved s x m staging j .firmware ≡ s .firmware) × (moved s x m staging j .fram ≡ m .fram)
 unfolding moved
 moved-keeps s GoingOn m staging j = (refl, refl, refl)
 moved-keeps s Saved m staging j = (refl, refl, refl)
@@ -36,7 +36,7 @@ moved-keeps s Restored m staging j = (refl, refl, refl)
 moved-keeps s (Refused y) m staging j = (refl, refl, refl)
 
 advance-keeps : (u : Setup) (s : State) (a : Advances)
-    → (step u s (advanced-by a) .nonces ≡ s .nonces) × (step u s (advanced-by a) .form ≡ s .form) × (step u s (advanced-by a) .fram ≡ advance (s .form) (s .ring) (s .fram) a .fram)
+    → (step u s (advanced-by a) .nonces ≡ s .nonces) × (step u s (advanced-by a) .firmware ≡ s .firmware) × (step u s (advanced-by a) .fram ≡ advance (s .firmware) (s .ring) (s .fram) a .fram)
 unfolding step left-by
 advance-keeps u s a = moved-keeps s _ _ _ _
 
@@ -55,9 +55,9 @@ module _ (u : Setup) (s : State) (h : Handed) (inv : Holds u s) where
   advance-kept (some x) d = refl
   advance-kept none d = store-kept (h .job .phase) d
 
-  fram-long : s .handed ≡ some h → length (step u s (advanced-by (call u h)) .fram) ≡ length (s .fram)
+  pub fram-long : s .handed ≡ some h → length (step u s (advanced-by (call u h)) .fram) ≡ length (s .fram)
   unfolding advance
-  fram-long e = ap (λ (l : List ℕ). length l) (advance-keeps u s (call u h) .2) ∙ advance-kept (advance-stop (s .form) (s .ring) (s .fram) (call u h)) (inv .doing h e)
+  fram-long e = ap (λ (l : List ℕ). length l) (advance-keeps u s (call u h) .2) ∙ advance-kept (advance-stop (s .firmware) (s .ring) (s .fram) (call u h)) (inv .doing h e)
 
 advance-journal : (u : Setup) (s : State) (a : Advances) → refused s (advanced-by a) ≡ false
     → step u s (advanced-by a) .journal ≡ advanced (s .journal) (s .journal .draft)
@@ -89,7 +89,7 @@ pub record Made (u : Setup) (t : State) (c : Checkpoint) (origin : Origin) (even
   pub ended : rest ≡ [] → Ended u (run u t events) c
   pub count : run u t events .journal .count ≡ t .journal .count + records
   pub nonces : run u t events .nonces ≡ t .nonces
-  pub form : run u t events .form ≡ t .form
+  pub firmware : run u t events .firmware ≡ t .firmware
   pub fram-long : length (run u t events .fram) ≡ length (t .fram)
 
 module _ (u : Setup) (c : Checkpoint) (origin : Origin) (rest : List Store) where
@@ -99,7 +99,7 @@ module _ (u : Setup) (c : Checkpoint) (origin : Origin) (rest : List Store) wher
       → Made u t c origin (advanced-by (call u h) ∷ advances-of u (length first) (step u t (advanced-by (call u h)))) (records-in (x ∷ first)) rest
   unfolding Allowed run Keeps refused advanced
   more-made x first t h inv e d m more =
-      let r : is-stopped (advance (t .form) (t .ring) (t .fram) (call u h) .progress) ≡ false = ap is-stopped (m .answered) ∙ going origin (first ++ rest) in
+      let r : is-stopped (advance (t .firmware) (t .ring) (t .fram) (call u h) .progress) ≡ false = ap is-stopped (m .answered) ∙ going origin (first ++ rest) in
       let j : step u t (advanced-by (call u h)) .journal ≡ made (t .journal) (draft-of c origin (x ∷ (first ++ rest))) (x ∷ (first ++ rest)) =
       advance-journal u t (call u h) r ∙ ap (λ (o : Option Draft). advanced (t .journal) o) d in
       record {
@@ -112,7 +112,7 @@ module _ (u : Setup) (c : Checkpoint) (origin : Origin) (rest : List Store) wher
         count = more .count ∙ ap (λ (k : Journal). k .count + records-in first) j
             ∙ made-count (t .journal) (draft-of c origin (x ∷ (first ++ rest))) x first (first ++ rest);
         nonces = more .nonces ∙ advance-keeps u t (call u h) .0;
-        form = more .form ∙ advance-keeps u t (call u h) .1;
+        firmware = more .firmware ∙ advance-keeps u t (call u h) .1;
         fram-long = more .fram-long ∙ fram-long u t h inv e;
       }
 
@@ -120,7 +120,7 @@ module _ (u : Setup) (c : Checkpoint) (origin : Origin) (rest : List Store) wher
       → (first ++ rest ≡ [] → Ended u t c) → Made u t c origin (advances-of u (length first) t) (records-in first) rest
   unfolding Allowed run advances-of
   made-first [] t h inv e d f =
-      record { allowed = tt; holds = inv; draft-is = d; handed = h; handed-is = e; ended = f; count = omega arith; nonces = refl; form = refl; fram-long = refl }
+      record { allowed = tt; holds = inv; draft-is = d; handed = h; handed-is = e; ended = f; count = omega arith; nonces = refl; firmware = refl; fram-long = refl }
   made-first (x ∷ first) t h inv e d f =
       let m = advancing u t h inv c origin x (first ++ rest) d e in
       let more = made-first first (step u t (advanced-by (call u h))) (m .handed) (m .holds) (m .handed-is) (m .draft-is) (m .ended) in
@@ -146,7 +146,7 @@ stores-record key slots j c = one-record (j .owed) (ltb 0 (j .count) && eqb (j .
 -- the events are allowed, and keep the firmware's form and the FRAM's length
 pub record Passed (u : Setup) (s : State) (events : List Event) : Type 0 where
   pub allowed : Allowed u s events
-  pub form : run u s events .form ≡ s .form
+  pub firmware : run u s events .firmware ≡ s .firmware
   pub fram-long : length (run u s events .fram) ≡ length (s .fram)
 
 -- from state s, the start of a draft of c under `nonce` and all of its stores
@@ -162,12 +162,12 @@ pub whole : (u : Setup) (s : State) (e : Event) (c : Checkpoint) (origin : Origi
     → step u s e .journal .draft
     ≡ some (draft-of c origin (stores-of (u .key) (u .sizes .slots) (s .journal) c))
     → step u s e .journal .count ≡ s .journal .count → step u s e .nonces ≡ nonce ∷ s .nonces
-    → step u s e .form ≡ s .form → step u s e .fram ≡ s .fram → Whole u s c nonce (to-its-end u s e)
+    → step u s e .firmware ≡ s .firmware → step u s e .fram ≡ s .fram → Whole u s c nonce (to-its-end u s e)
 unfolding to-its-end Allowed run stores-left
 whole u s e c origin nonce h k inv q d n m o r =
     subst (λ (l : ℕ). Whole u s c nonce (e ∷ advances-of u l (step u s e))) (sym (ap stores-left d))
     (record {
-      passed = record { allowed = (inr k, f .allowed); form = f .form ∙ o; fram-long = f .fram-long ∙ ap (λ (l : List ℕ). length l) r };
+      passed = record { allowed = (inr k, f .allowed); firmware = f .firmware ∙ o; fram-long = f .fram-long ∙ ap (λ (l : List ℕ). length l) r };
       holds = f .holds;
       ended = f .ended refl;
       count = f .count ∙ (λ i. n i + stores-record (u .key) (u .sizes .slots) (s .journal) c i);
@@ -196,7 +196,7 @@ allowed-append u (e ∷ xs) ys s (k, m) l = (k, allowed-append u xs ys (step u s
 pub passed-append : (u : Setup) (xs ys : List Event) (s : State) → Passed u s xs → Passed u (run u s xs) ys → Passed u s (xs ++ ys)
 passed-append u xs ys s p q = record {
   allowed = allowed-append u xs ys s (p .allowed) (q .allowed);
-  form = ap (λ (t : State). t .form) (run-append u xs ys s) ∙ q .form ∙ p .form;
+  firmware = ap (λ (t : State). t .firmware) (run-append u xs ys s) ∙ q .firmware ∙ p .firmware;
   fram-long = ap (λ (t : State). length (t .fram)) (run-append u xs ys s) ∙ q .fram-long ∙ p .fram-long;
 }
 

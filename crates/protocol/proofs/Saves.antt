@@ -18,9 +18,9 @@ use Rattle.ring.proofs.RingLaws.{read-blank}
 use Rattle.ring.proofs.FoundLaws.{found, pending-is}
 use Rattle.checkpoint.specs.Checkpoint.{Form, Older, Longer, Checkpoint, own-tag, sealed}
 use Rattle.checkpoint.specs.Layout.{PacketInRange}
-use Rattle.checkpoint.specs.Fram.{half-length}
+use Rattle.checkpoint.specs.Fram.{fram-wrong, half-length}
 use Rattle.checkpoint.proofs.SealedLaws.{length-own-tag}
-use Rattle.protocol.specs.Types.{Session, Save, Job, Words}
+use Rattle.protocol.specs.Types.{Firmware, Session, Save, Job, Words}
 use Rattle.protocol.specs.Calls.{Saves, Setup, saved}
 use Rattle.protocol.specs.Operations.{key-wrong, nonce-wrong, packet-wrong, session-wrong, written-number, larger, save-restarts, job-of, save-stop, save-checkpoint, save, stale}
 use Rattle.protocol.specs.Journal.{entered, number-in, starts-over, saved-entry, Journal, drafted, save-draft}
@@ -33,25 +33,27 @@ use Rattle.protocol.proofs.Starts.{started, start-holds, begun-stopped,
 abbrev pub save-call : Setup → Saves → Saves
 save-call u a = record { arguments = save-arguments u (a .arguments); session = a .session }
 
-record SavePasses (u : Setup) (form : Form) (ring fram : List ℕ) (a : Saves) : Type 0 where
+record SavePasses (u : Setup) (firmware : Firmware) (ring fram : List ℕ) (a : Saves) : Type 0 where
+  fram-fits : fram-wrong (firmware .largest-fram) fram ≡ false
   nonce-long : length (a .arguments .nonce) ≡ nonce-length
-  parts : Parts form (a .arguments .open-part) (a .arguments .secret) (half-length fram) (length (a .arguments .staging))
-  packet-small : packet-wrong form (a .arguments .packet) ≡ false
+  parts : Parts firmware (a .arguments .open-part) (a .arguments .secret) (half-length fram) (length (a .arguments .staging))
+  packet-small : packet-wrong (firmware .form) (a .arguments .packet) ≡ false
   in-use : is-blank (read-ring ring (u .sizes .pages) (u .sizes .slots)) ≡ false
   fresh-session : stale ring (u .sizes .slots) (read-ring ring (u .sizes .pages) (u .sizes .slots)) (a .session) ≡ false
-  session-right : session-wrong form (a .session) ≡ false
+  session-right : session-wrong (firmware .form) (a .session) ≡ false
   none-pending : is-pending (read-ring ring (u .sizes .pages) (u .sizes .slots)) ≡ false
 
-save-passes : (u : Setup) (form : Form) (ring fram : List ℕ) (a : Saves) → save-stop form ring fram (save-call u a) ≡ none → SavePasses u form ring fram a
+save-passes : (u : Setup) (firmware : Firmware) (ring fram : List ℕ) (a : Saves) → save-stop firmware ring fram (save-call u a) ≡ none → SavePasses u firmware ring fram a
 unfolding save-stop
-save-passes u form ring fram a e =
+save-passes u firmware ring fram a e =
     let p = passes _ e in
     let lengths = neither (key-wrong (length (u .key))) (nonce-wrong (length (a .arguments .nonce))) (p .1 .1 .0) in
     let found = p .1 .1 .1 .1 .1 in
-    let session = neither (stale ring (u .sizes .slots) (read-ring ring (u .sizes .pages) (u .sizes .slots)) (a .session)) (session-wrong form (a .session)) (found .1 .1 .0) in
+    let session = neither (stale ring (u .sizes .slots) (read-ring ring (u .sizes .pages) (u .sizes .slots)) (a .session)) (session-wrong (firmware .form) (a .session)) (found .1 .1 .0) in
     record {
+      fram-fits = p .1 .0;
       nonce-long = eqb-true (length (a .arguments .nonce)) nonce-length (not-false _ (lengths .1));
-      parts = parts-pass form (a .arguments .open-part) (a .arguments .secret) fram (a .arguments .staging) (p .1 .1 .1 .0);
+      parts = parts-pass firmware (a .arguments .open-part) (a .arguments .secret) fram (a .arguments .staging) (p .1 .1 .1 .0);
       packet-small = p .1 .1 .1 .1 .0;
       in-use = found .0;
       fresh-session = session .0;
@@ -141,12 +143,12 @@ module _ (u : Setup) (s : State) (inv : Holds u s) (a : Saves) (new : List·Mem�
 
   -- the job of a save that does not stop
   abbrev pub saving-job : Job
-  saving-job = job-of (u .key) (save-checkpoint (s .form) (save-call u a)) (Words 0) Save (1 - half-named (newest-record (s .ring) (u .sizes .slots) n))
+  saving-job = job-of (u .key) (save-checkpoint (s .firmware .form) (save-call u a)) (Words 0) Save (1 - half-named (newest-record (s .ring) (u .sizes .slots) n))
       (target-page (u .sizes .pages) (u .sizes .slots) n) (target-slot (u .sizes .slots) n)
 
-  module _ (e : save-stop (s .form) (s .ring) (s .fram) (save-call u a) ≡ none) where
-    p : SavePasses u (s .form) (s .ring) (s .fram) a
-    p = save-passes u (s .form) (s .ring) (s .fram) a e
+  module _ (e : save-stop (s .firmware) (s .ring) (s .fram) (save-call u a) ≡ none) where
+    p : SavePasses u (s .firmware) (s .ring) (s .fram) a
+    p = save-passes u (s .firmware) (s .ring) (s .fram) a e
 
     x : (c : Checkpoint) × Recorded u (s .ring) (s .fram) (s .nonces) (s .journal .entry) (s .journal .count) (s .journal .owed) (s .journal .power-ups) c
     x = in-use-recorded u s inv (p .in-use)
@@ -170,54 +172,54 @@ module _ (u : Setup) (s : State) (inv : Holds u s) (a : Saves) (new : List·Mem�
     matches : Matches u (a .session) (x .0)
     matches = inv .sessions-match (a .session) mine (x .0) (r .entry-is) latest-is
 
-    good : Good (save-checkpoint (s .form) (save-call u a)) (half-length (s .fram))
+    good : Good (save-checkpoint (s .firmware .form) (save-call u a)) (half-length (s .fram))
     unfolding save-checkpoint
     good = record {
       range = record {
         open-whole = p .parts .open-passes .0;
-        open-small = p .parts .open-passes .1;
+        open-small = omega (arith, p .parts .open-passes .1, s .firmware .fits-word);
         secret-whole = p .parts .secret-passes .0;
-        secret-small = p .parts .secret-passes .1;
-        restarts-small = save-few (s .form) (a .arguments .packet) (a .session) (p .session-right);
-        packet-small = save-numbered (s .form) (a .arguments .packet) (a .session) (p .packet-small) (p .session-right);
+        secret-small = omega (arith, p .parts .secret-passes .1, s .firmware .fits-word);
+        restarts-small = save-few (s .firmware .form) (a .arguments .packet) (a .session) (p .session-right);
+        packet-small = save-numbered (s .firmware .form) (a .arguments .packet) (a .session) (p .packet-small) (p .session-right);
         previous-long = rw (matches .0) (length-own-tag (u .key) (x .0));
       };
       nonce-long = p .nonce-long;
       fits = p .parts .fits;
     }
 
-    pub save-begun : Holds u (started u s (save-checkpoint (s .form) (save-call u a)) Save (save-checkpoint (s .form) (save-call u a) .restarts) saving-job (a .arguments .staging))
+    pub save-begun : Holds u (started u s (save-checkpoint (s .firmware .form) (save-call u a)) Save (save-checkpoint (s .firmware .form) (save-call u a) .restarts) saving-job (a .arguments .staging))
     unfolding save-checkpoint
     save-begun =
-        start-holds u s inv (save-checkpoint (s .form) (save-call u a)) Save (Words 0) (1 - half-named (newest-record (s .ring) (u .sizes .slots) n))
-        (target-page (u .sizes .pages) (u .sizes .slots) n) (target-slot (u .sizes .slots) n) (a .arguments .staging) good refl new (p .parts .staging-long)
+        start-holds u s inv (save-checkpoint (s .firmware .form) (save-call u a)) Save (Words 0) (1 - half-named (newest-record (s .ring) (u .sizes .slots) n))
+        (target-page (u .sizes .pages) (u .sizes .slots) n) (target-slot (u .sizes .slots) n) (a .arguments .staging) good refl (p .parts .open-passes .1, p .parts .secret-passes .1) (p .fram-fits) new (p .parts .staging-long)
         (rw reads-as (other-half (inv .fram-right) r))
         (rw reads-as (target-page-found (inv .fram-right) r))
         (rw reads-as (target-slot-found (inv .fram-right) r))
-        (save-checkpoint (s .form) (save-call u a) .restarts) refl (inl (none-owed, refl))
+        (save-checkpoint (s .firmware .form) (save-call u a) .restarts) refl (inl (none-owed, refl))
 
     -- the state after it
-    pub save-step : step u s (saved (save-call u a)) ≡ started u s (save-checkpoint (s .form) (save-call u a)) Save (save-checkpoint (s .form) (save-call u a) .restarts) saving-job (a .arguments .staging)
+    pub save-step : step u s (saved (save-call u a)) ≡ started u s (save-checkpoint (s .firmware .form) (save-call u a)) Save (save-checkpoint (s .firmware .form) (save-call u a) .restarts) saving-job (a .arguments .staging)
     unfolding step left-by entered refused save save-checkpoint
     save-step =
-        begun-none s (save-stop (s .form) (s .ring) (s .fram) (save-call u a)) _ _ _ _ _ _ _ _ e
+        begun-none s (save-stop (s .firmware) (s .ring) (s .fram) (save-call u a)) _ _ _ _ _ _ _ _ e
         ∙ ap (λ (j : Journal). record {
           ring = s .ring;
           fram = s .fram;
-          handed = some (record { job = saving-job; staging = put (a .arguments .staging) 0 (sealed (u .key) (save-checkpoint (s .form) (save-call u a))) });
+          handed = some (record { job = saving-job; staging = put (a .arguments .staging) 0 (sealed (u .key) (save-checkpoint (s .firmware .form) (save-call u a))) });
           sessions = s .sessions;
           nonces = a .arguments .nonce ∷ s .nonces;
           journal = j;
-          form = s .form;
-        }) (saved-draft (s .form) u (save-call u a) (s .journal .entry) (s .journal) (u .sizes .slots) (x .0) (r .entry-is) matches (r .restarts-are))
+          firmware = s .firmware;
+        }) (saved-draft (s .firmware .form) u (save-call u a) (s .journal .entry) (s .journal) (u .sizes .slots) (x .0) (r .entry-is) matches (r .restarts-are))
 
-  save-go : (o : Option ℕ) → save-stop (s .form) (s .ring) (s .fram) (save-call u a) ≡ o → Holds u (step u s (saved (save-call u a)))
+  save-go : (o : Option ℕ) → save-stop (s .firmware) (s .ring) (s .fram) (save-call u a) ≡ o → Holds u (step u s (saved (save-call u a)))
   unfolding step left-by entered refused save
-  save-go (some x) e = rw (begun-stopped s (save-stop (s .form) (s .ring) (s .fram) (save-call u a)) _ _ _ _ _ _ _ _ x e) inv
+  save-go (some x) e = rw (begun-stopped s (save-stop (s .firmware) (s .ring) (s .fram) (save-call u a)) _ _ _ _ _ _ _ _ x e) inv
   save-go none e = subst (λ (t : State). Holds u t) (sym (save-step e)) (save-begun e)
 
 pub hold-saved : (u : Setup) (s : State) (a : Saves) → Holds u s → Keeps u s (saved a) → Holds u (step u s (saved a))
 unfolding Keeps
 hold-saved u s a inv (p, q, f, m) =
     let path : save-call u a ≡ a = λ i. record { arguments = same-arguments u (a .arguments) p q i; session = a .session } in
-    subst (λ (b : Saves). Holds u (step u s (saved b))) path (save-go u s inv a f m (save-stop (s .form) (s .ring) (s .fram) (save-call u a)) refl)
+    subst (λ (b : Saves). Holds u (step u s (saved b))) path (save-go u s inv a f m (save-stop (s .firmware) (s .ring) (s .fram) (save-call u a)) refl)

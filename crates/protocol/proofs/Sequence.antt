@@ -11,7 +11,7 @@ use lib.Dec.{eqb}
 use borrow.Author.Tests.{eqb-true, eqb-false, leb-false, not-false}
 use Rattle.stops.proofs.Laws.{neither}
 use Rattle.checkpoint.specs.Checkpoint.{Form, Checkpoint}
-use Rattle.protocol.specs.Types.{Phase, Words, Record, Job, Begun, Save}
+use Rattle.protocol.specs.Types.{Firmware, Phase, Words, Record, Job, Begun, Save}
 use Rattle.protocol.specs.Calls.{Sizes, FirstSave, Advances}
 use Rattle.protocol.specs.Operations.{begin, job-of, first-checkpoint, first-save-stop, first-save, in-phase, phase-wrong, job-wrong, going-on, store, advance-stop, advance-by, advance}
 use Rattle.protocol.proofs.Advancing.{job-passes}
@@ -25,12 +25,12 @@ begin-job none key c job staging state secret e = refl
 begin-job (some x) key c job staging state secret e = absurd (let z : _≡_ {A = ℕ} 0 1 = cc in omega arith)
 
 -- one that begins answers a job whose next store is word 0 of half A, and whose target is page 0, slot 0
-pub first-target : (form : Form) (ring fram : List ℕ) (a : FirstSave) → first-save form ring fram a .answer ≡ Begun
-    → (first-save form ring fram a .job .phase ≡ Words 0) × (first-save form ring fram a .job .half ≡ 0)
-    × (first-save form ring fram a .job .page ≡ 0) × (first-save form ring fram a .job .slot ≡ 0)
+pub first-target : (firmware : Firmware) (ring fram : List ℕ) (a : FirstSave) → first-save firmware ring fram a .answer ≡ Begun
+    → (first-save firmware ring fram a .job .phase ≡ Words 0) × (first-save firmware ring fram a .job .half ≡ 0)
+    × (first-save firmware ring fram a .job .page ≡ 0) × (first-save firmware ring fram a .job .slot ≡ 0)
 unfolding first-save job-of
-first-target form ring fram a e =
-    let j = begin-job (first-save-stop form ring fram a) (a .arguments .key) (first-checkpoint form a) (job-of (a .arguments .key) (first-checkpoint form a) (Words 0) Save 0 0 0)
+first-target firmware ring fram a e =
+    let j = begin-job (first-save-stop firmware ring fram a) (a .arguments .key) (first-checkpoint (firmware .form) a) (job-of (a .arguments .key) (first-checkpoint (firmware .form) a) (Words 0) Save 0 0 0)
     (a .arguments .staging) [] [] e in
     (ap (λ (y : Job). y .phase) j, ap (λ (y : Job). y .half) j, ap (λ (y : Job). y .page) j, ap (λ (y : Job). y .slot) j)
 
@@ -41,10 +41,10 @@ word-step : (w : ℕ) (ring fram : List ℕ) (a : Advances) (b : Bool) → eqb (
 unfolding store going-on
 word-step w ring fram a b e = ap (λ (t : Bool). in-phase (a .job) (cond t Record (Words (w + 1)))) e
 
-word-stored : (form : Form) (ring fram : List ℕ) (a : Advances) (w : ℕ) → a .job .phase ≡ Words w → advance-stop form ring fram a ≡ none
-    → advance form ring fram a .job ≡ store (Words w) ring fram a .job
+word-stored : (firmware : Firmware) (ring fram : List ℕ) (a : Advances) (w : ℕ) → a .job .phase ≡ Words w → advance-stop firmware ring fram a ≡ none
+    → advance firmware ring fram a .job ≡ store (Words w) ring fram a .job
 unfolding advance advance-by
-word-stored form ring fram a w p e = rw (e, p)
+word-stored firmware ring fram a w p e = rw (e, p)
 
 -- a job in order is whole words long, and word w is one of them
 word-fits : (form : Form) (j : Job) (z : Sizes) (ring fram : List ℕ) (w : ℕ) → job-wrong form j z ring fram ≡ false → j .phase ≡ Words w → (j .length % 4 ≡ 0) × (4 * w < j .length)
@@ -61,16 +61,16 @@ word-fits form j z ring fram w e p =
     )
 
 -- an advance at word w that does not stop leaves word w + 1 to come, or the record if w was the last word
-pub words-in-order : (form : Form) (ring fram : List ℕ) (a : Advances) (w : ℕ) → a .job .phase ≡ Words w → advance-stop form ring fram a ≡ none
-    → ((4 * (w + 1) < a .job .length) × (advance form ring fram a .job ≡ in-phase (a .job) (Words (w + 1))))
-    ⊎ ((4 * (w + 1) ≡ a .job .length) × (advance form ring fram a .job ≡ in-phase (a .job) Record))
-words-in-order form ring fram a w p e = go (eqb (4 * (w + 1)) (a .job .length)) refl
+pub words-in-order : (firmware : Firmware) (ring fram : List ℕ) (a : Advances) (w : ℕ) → a .job .phase ≡ Words w → advance-stop firmware ring fram a ≡ none
+    → ((4 * (w + 1) < a .job .length) × (advance firmware ring fram a .job ≡ in-phase (a .job) (Words (w + 1))))
+    ⊎ ((4 * (w + 1) ≡ a .job .length) × (advance firmware ring fram a .job ≡ in-phase (a .job) Record))
+words-in-order firmware ring fram a w p e = go (eqb (4 * (w + 1)) (a .job .length)) refl
   where
     fits : (a .job .length % 4 ≡ 0) × (4 * w < a .job .length)
-    fits = word-fits form (a .job) (a .sizes) ring fram w (job-passes form ring fram a e) p
+    fits = word-fits (firmware .form) (a .job) (a .sizes) ring fram w (job-passes firmware ring fram a e) p
 
     go : (b : Bool) → eqb (4 * (w + 1)) (a .job .length) ≡ b
-        → ((4 * (w + 1) < a .job .length) × (advance form ring fram a .job ≡ in-phase (a .job) (Words (w + 1))))
-        ⊎ ((4 * (w + 1) ≡ a .job .length) × (advance form ring fram a .job ≡ in-phase (a .job) Record))
-    go true q = inr (eqb-true _ _ q, word-stored form ring fram a w p e ∙ word-step w ring fram a true q)
-    go false q = inl (omega (arith, eqb-false (4 * (w + 1)) (a .job .length) q, fits .0, fits .1), word-stored form ring fram a w p e ∙ word-step w ring fram a false q)
+        → ((4 * (w + 1) < a .job .length) × (advance firmware ring fram a .job ≡ in-phase (a .job) (Words (w + 1))))
+        ⊎ ((4 * (w + 1) ≡ a .job .length) × (advance firmware ring fram a .job ≡ in-phase (a .job) Record))
+    go true q = inr (eqb-true _ _ q, word-stored firmware ring fram a w p e ∙ word-step w ring fram a true q)
+    go false q = inl (omega (arith, eqb-false (4 * (w + 1)) (a .job .length) q, fits .0, fits .1), word-stored firmware ring fram a w p e ∙ word-step w ring fram a false q)

@@ -11,18 +11,17 @@ use lib.Dec.{eqb, ltb}
 use borrow.Author.Tests.{ltb-false}
 use Rattle.octets.specs.Octets.{put}
 use Rattle.octets.proofs.Laws.{length-put, put-within}
-use Rattle.octets.specs.Limits.{part-limit}
 use Rattle.stops.proofs.Laws.{neither}
 use Rattle.checkpoint.proofs.SealedLaws.{part-sizes}
-use Rattle.checkpoint.specs.Checkpoint.{Form, Checkpoint, sealed, sealed-length}
+use Rattle.checkpoint.specs.Checkpoint.{Checkpoint, sealed, sealed-length}
 use Rattle.checkpoint.specs.Half.{stored}
-use Rattle.checkpoint.specs.Fram.{half-length}
-use Rattle.protocol.specs.Types.{Origin, Job, Phase, EraseFirst, Words}
+use Rattle.checkpoint.specs.Fram.{fram-wrong, half-length}
+use Rattle.protocol.specs.Types.{Firmware, Origin, Job, Phase, EraseFirst, Words}
 use Rattle.protocol.specs.Calls.{Setup, SaveArguments}
 use Rattle.protocol.specs.Operations.{Begin, job-of, begin, parts-wrong, staging-wrong}
 use Rattle.protocol.specs.Journal.{Journal, Store, erase, word, record-slot, erase-if, drafted, stores-of}
 use Rattle.protocol.specs.History.{State, Handed, begun, is-stop}
-use Rattle.protocol.proofs.Invariant.{Good, length-good, sealed-fits, half-of, page-in, slot-in, owed-page, Durable, Before, last-erase, Doing, Holds}
+use Rattle.protocol.proofs.Invariant.{Small, Good, length-good, sealed-fits, half-of, page-in, slot-in, owed-page, Durable, Before, last-erase, Doing, Holds}
 use Rattle.protocol.proofs.Advances.{doing-of}
 
 -- where a start's stores begin
@@ -39,7 +38,7 @@ started u s c origin power-ups job staging = record {
   sessions = s .sessions;
   nonces = c .nonce ∷ s .nonces;
   journal = drafted (u .key) (u .sizes .slots) origin c power-ups (s .journal);
-  form = s .form;
+  firmware = s .firmware;
 }
 
 more-nonces : {u : Setup} {ring fram : List ℕ} {nonces : List (List ℕ)} {entry : Option Checkpoint} {count : ℕ} {owed : Bool} {power-ups : ℕ} (nonce : List ℕ)
@@ -74,7 +73,7 @@ unfolding stores-of erase-if
 owing key slots j c left o e = rw (o, e)
 
 module _ (u : Setup) (s : State) (inv : Holds u s) (c : Checkpoint) (origin : Origin) (phase : Phase) (half page slot : ℕ) (staging : List ℕ)
-    (good : Good c (half-length (s .fram))) (form-is : c .form ≡ s .form) (fresh-nonce : List·Memᴰ (c .nonce) (s .nonces) → ⊥) (long : half-length (s .fram) ≤ length staging)
+    (good : Good c (half-length (s .fram))) (form-is : c .form ≡ s .firmware .form) (small : Small (s .firmware) c) (fram-fits : fram-wrong (s .firmware .largest-fram) (s .fram) ≡ false) (fresh-nonce : List·Memᴰ (c .nonce) (s .nonces) → ⊥) (long : half-length (s .fram) ≤ length staging)
     (half-is : half ≡ half-of (s .journal .count + 1)) (page-is : page ≡ page-in u (s .journal .count + 1))
     (slot-is : slot ≡ slot-in u (s .journal .count + 1)) (power-ups : ℕ) (restarts-are : power-ups ≡ c .restarts) where
   abbrev job : Job
@@ -109,6 +108,8 @@ module _ (u : Setup) (s : State) (inv : Holds u s) (c : Checkpoint) (origin : Or
       c = c;
       origin = origin;
       form-is = form-is;
+      small = small;
+      fram-fits = fram-fits;
       draft-is = λ i. some (record { checkpoint = c; origin = origin; power-ups = restarts-are i; stores = e i });
       good = good;
       nonce-known = List·Memᴰ·head refl;
@@ -175,30 +176,30 @@ module _ (s : State) (o : Option ℕ) (key : List ℕ) (c : Checkpoint) (job : J
     sessions = s .sessions;
     nonces = nonce ∷ s .nonces;
     journal = j;
-    form = s .form;
+    firmware = s .firmware;
   }
   unfolding begin begun is-stop
   begun-none e = rw e
 
 -- ---- parts that pass
 
-pub record Parts (form : Form) (open-part secret : List ℕ) (half staging : ℕ) : Type 0 where
-  pub open-passes : (length open-part % 4 ≡ 0) × (length open-part ≤ part-limit)
-  pub secret-passes : (length secret % 4 ≡ 0) × (length secret ≤ part-limit)
-  pub fits : sealed-length form (length open-part) (length secret) ≤ half
+pub record Parts (firmware : Firmware) (open-part secret : List ℕ) (half staging : ℕ) : Type 0 where
+  pub open-passes : (length open-part % 4 ≡ 0) × (length open-part ≤ firmware .longest-part)
+  pub secret-passes : (length secret % 4 ≡ 0) × (length secret ≤ firmware .longest-part)
+  pub fits : sealed-length (firmware .form) (length open-part) (length secret) ≤ half
   pub staging-long : half ≤ staging
 
-pub parts-pass : (form : Form) (open-part secret fram staging : List ℕ) → parts-wrong form open-part secret fram || staging-wrong staging fram ≡ false
-    → Parts form open-part secret (half-length fram) (length staging)
+pub parts-pass : (firmware : Firmware) (open-part secret fram staging : List ℕ) → parts-wrong firmware open-part secret fram || staging-wrong staging fram ≡ false
+    → Parts firmware open-part secret (half-length fram) (length staging)
 unfolding parts-wrong staging-wrong
-parts-pass form open-part secret fram staging e =
+parts-pass firmware open-part secret fram staging e =
     let a = neither _ _ e in
     let b = neither _ _ (a .0) in
     let c = neither _ _ (b .0) in
     record {
-      open-passes = part-sizes open-part (c .0);
-      secret-passes = part-sizes secret (c .1);
-      fits = ltb-false (half-length fram) (sealed-length form (length open-part) (length secret)) (b .1);
+      open-passes = part-sizes (firmware .longest-part) open-part (c .0);
+      secret-passes = part-sizes (firmware .longest-part) secret (c .1);
+      fits = ltb-false (half-length fram) (sealed-length (firmware .form) (length open-part) (length secret)) (b .1);
       staging-long = ltb-false (length staging) (half-length fram) (a .1);
     }
 

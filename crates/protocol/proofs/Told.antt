@@ -54,7 +54,7 @@ module _ (u : Setup) (s : State) (inv : Holds u s) where
   told-call h (Words w) e d = told-store u s h _ _ _ _ (d .before .working .draft-is) (writing u s h inv w e d)
   told-call h Record e d = told-store u s h _ _ _ _ (d .before .working .draft-is) (recording inv d e)
   told-call h (EraseAfter p) e d = told-store u s h _ _ _ _ (d .working .draft-is) (erasing-after u s h inv p e d)
-  told-call h Done e d = told-done u s h (d .0) (d .1) (d .2) (done-refused u s h e (advance-stop (s .form) (s .ring) (s .fram) (call u h)) refl)
+  told-call h Done e d = told-done u s h (d .0) (d .1) (d .2) (done-refused u s h e (advance-stop (s .firmware) (s .ring) (s .fram) (call u h)) refl)
 
   pub told : (a : Advances) → Keeps u s (advanced-by a) → Told u s a
   unfolding Keeps

@@ -1,7 +1,7 @@
 -- Lists of calls and power losses (document 01, "Runs, cuts and the book"; a cut is a power loss): what they leave, and the rules that the papers set for them.
--- Up to some power loss the calls may be those of older firmware (document 02, A.2): `Updated` is that loss. Where it fell into a store,
--- `lost-in-store` comes right before it.
-use Prim.Native.Nat.{ℕ, _+_, _*_}
+-- At a power loss the unit may get newer firmware (document 02, A.2 and A.5), as often as one likes: `updated-to` is that loss. Where it fell
+-- into a store, `lost-in-store` comes right before it.
+use Prim.Native.Nat.{ℕ, _+_, _*_, _≤_}
 use mathlib.Core.Path.{_≡_}
 use mathlib.Core.Logic.{_⊎_}
 use mathlib.Core.Bool.{Bool, true, false}
@@ -13,9 +13,9 @@ use Rattle.octets.specs.Limits.{slot-length}
 use Rattle.octets.specs.Octets.{part, put, erased}
 use Rattle.ring.specs.Ring.{page-put, record-put}
 use Rattle.checkpoint.specs.Fram.{half-length}
-use Rattle.checkpoint.specs.Checkpoint.{Form, Longer}
-use Rattle.protocol.specs.Types.{Phase, EraseFirst, Words, Record, EraseAfter, Done, Job, Session, Progress, GoingOn, Saved, Restored, Refused, Start, Begun, Stopped}
-use Rattle.protocol.specs.Calls.{Setup, Event, first-saved, saved, powered-up, advanced-by, PowerLoss, Updated, lost-in-store}
+use Rattle.checkpoint.specs.Half.{Reads}
+use Rattle.protocol.specs.Types.{Firmware, Phase, EraseFirst, Words, Record, EraseAfter, Done, Job, Session, Progress, GoingOn, Saved, Restored, Refused, Start, Begun, Stopped}
+use Rattle.protocol.specs.Calls.{Setup, Event, first-saved, saved, powered-up, advanced-by, PowerLoss, updated-to, lost-in-store}
 use Rattle.protocol.specs.Operations.{Begin, Moved, first-save, save, power-up, advance, job-record}
 use Rattle.protocol.specs.Journal.{entered, Journal, empty}
 
@@ -25,7 +25,7 @@ pub record Handed : Type 0 where
   pub staging : List ℕ
 
 -- the memories, the job handed out last, the sessions handed out, the nonces of starts that did not stop, the journal,
--- and the form of the heads which the unit's firmware writes
+-- and the unit's firmware
 pub record State : Type 0 where
   pub ring : List ℕ
   pub fram : List ℕ
@@ -33,11 +33,11 @@ pub record State : Type 0 where
   pub sessions : List Session
   pub nonces : List (List ℕ)
   pub journal : Journal
-  pub form : Form
+  pub firmware : Firmware
 
 -- the memories as they were given, with nothing handed out
-unfoldable pub fresh : Form → List ℕ → List ℕ → State
-fresh form ring fram = record { ring = ring; fram = fram; handed = none; sessions = []; nonces = []; journal = empty; form = form }
+unfoldable pub fresh : Firmware → List ℕ → List ℕ → State
+fresh firmware ring fram = record { ring = ring; fram = fram; handed = none; sessions = []; nonces = []; journal = empty; firmware = firmware }
 
 -- ---- whether a call stops
 
@@ -53,12 +53,12 @@ is-stopped (Refused stop) = true
 
 -- the call stops
 unfoldable pub refused : State → Event → Bool
-refused s (first-saved a) = is-stop (first-save (s .form) (s .ring) (s .fram) a .answer)
-refused s (saved a) = is-stop (save (s .form) (s .ring) (s .fram) a .answer)
-refused s (powered-up a) = is-stop (power-up (s .form) (s .ring) (s .fram) a .answer)
-refused s (advanced-by a) = is-stopped (advance (s .form) (s .ring) (s .fram) a .progress)
+refused s (first-saved a) = is-stop (first-save (s .firmware) (s .ring) (s .fram) a .answer)
+refused s (saved a) = is-stop (save (s .firmware) (s .ring) (s .fram) a .answer)
+refused s (powered-up a) = is-stop (power-up (s .firmware) (s .ring) (s .fram) a .answer)
+refused s (advanced-by a) = is-stopped (advance (s .firmware) (s .ring) (s .fram) a .progress)
 refused s PowerLoss = false
-refused s Updated = false
+refused s (updated-to firmware) = false
 refused s (lost-in-store left) = false
 
 -- ---- what an event leaves, with the journal after it
@@ -71,7 +71,7 @@ begun s Begun b nonce j = record {
   sessions = s .sessions;
   nonces = nonce ∷ s .nonces;
   journal = j;
-  form = s .form;
+  firmware = s .firmware;
 }
 begun s (Stopped stop) b nonce j = record {
   ring = s .ring;
@@ -80,7 +80,7 @@ begun s (Stopped stop) b nonce j = record {
   sessions = s .sessions;
   nonces = s .nonces;
   journal = j;
-  form = s .form;
+  firmware = s .firmware;
 }
 
 unfoldable pub moved : State → Progress → Moved → List ℕ → Journal → State
@@ -91,7 +91,7 @@ moved s GoingOn m staging j = record {
   sessions = s .sessions;
   nonces = s .nonces;
   journal = j;
-  form = s .form;
+  firmware = s .firmware;
 }
 moved s Saved m staging j = record {
   ring = m .ring;
@@ -100,7 +100,7 @@ moved s Saved m staging j = record {
   sessions = m .session ∷ s .sessions;
   nonces = s .nonces;
   journal = j;
-  form = s .form;
+  firmware = s .firmware;
 }
 moved s Restored m staging j = record {
   ring = m .ring;
@@ -109,7 +109,7 @@ moved s Restored m staging j = record {
   sessions = m .session ∷ s .sessions;
   nonces = s .nonces;
   journal = j;
-  form = s .form;
+  firmware = s .firmware;
 }
 moved s (Refused stop) m staging j = record {
   ring = m .ring;
@@ -118,7 +118,7 @@ moved s (Refused stop) m staging j = record {
   sessions = s .sessions;
   nonces = s .nonces;
   journal = j;
-  form = s .form;
+  firmware = s .firmware;
 }
 
 -- the store of a job's phase, with `left` in the place of what it would have written
@@ -152,7 +152,7 @@ broken u s none left j = record {
   sessions = s .sessions;
   nonces = s .nonces;
   journal = j;
-  form = s .form;
+  firmware = s .firmware;
 }
 broken u s (some h) left j = record {
   ring = broken-ring (h .job .phase) (s .ring) (u .sizes .slots) (h .job) left;
@@ -161,14 +161,14 @@ broken u s (some h) left j = record {
   sessions = s .sessions;
   nonces = s .nonces;
   journal = j;
-  form = s .form;
+  firmware = s .firmware;
 }
 
 unfoldable pub left-by : Setup → State → Event → Journal → State
-left-by u s (first-saved a) j = let b = first-save (s .form) (s .ring) (s .fram) a in begun s (b .answer) b (a .arguments .nonce) j
-left-by u s (saved a) j = let b = save (s .form) (s .ring) (s .fram) a in begun s (b .answer) b (a .arguments .nonce) j
-left-by u s (powered-up a) j = let b = power-up (s .form) (s .ring) (s .fram) a in begun s (b .answer) b (a .nonce) j
-left-by u s (advanced-by a) j = let m = advance (s .form) (s .ring) (s .fram) a in moved s (m .progress) m (a .staging) j
+left-by u s (first-saved a) j = let b = first-save (s .firmware) (s .ring) (s .fram) a in begun s (b .answer) b (a .arguments .nonce) j
+left-by u s (saved a) j = let b = save (s .firmware) (s .ring) (s .fram) a in begun s (b .answer) b (a .arguments .nonce) j
+left-by u s (powered-up a) j = let b = power-up (s .firmware) (s .ring) (s .fram) a in begun s (b .answer) b (a .nonce) j
+left-by u s (advanced-by a) j = let m = advance (s .firmware) (s .ring) (s .fram) a in moved s (m .progress) m (a .staging) j
 left-by u s PowerLoss j = record {
   ring = s .ring;
   fram = s .fram;
@@ -176,23 +176,23 @@ left-by u s PowerLoss j = record {
   sessions = s .sessions;
   nonces = s .nonces;
   journal = j;
-  form = s .form;
+  firmware = s .firmware;
 }
 -- the sessions handed out before are not used after it
-left-by u s Updated j = record {
+left-by u s (updated-to firmware) j = record {
   ring = s .ring;
   fram = s .fram;
   handed = none;
   sessions = [];
   nonces = s .nonces;
   journal = j;
-  form = Longer;
+  firmware = firmware;
 }
 left-by u s (lost-in-store left) j = broken u s (s .handed) left j
 
 -- the journal changes by `entered` alone
 unfoldable pub step : Setup → State → Event → State
-step u s e = left-by u s e (entered u (s .form) (s .journal) e (refused s e))
+step u s e = left-by u s e (entered u (s .firmware .form) (s .journal) e (refused s e))
 
 unfoldable pub run : Setup → State → List Event → State
 run u s [] = s
@@ -208,8 +208,13 @@ Left Record j slots left = (left ≡ job-record j) ⊎ (left ≡ erased slot-len
 Left (EraseAfter p) j slots left = length left ≡ slot-length * slots
 Left Done j slots left = ⊥
 
+-- the firmware `next` reads what `firmware` wrote: heads of that form, and parts as long as its longest
+pub record Succeeds (firmware next : Firmware) : Type 0 where
+  pub heads : Reads (next .form) (firmware .form)
+  pub parts : firmware .longest-part ≤ next .longest-part
+
 -- document 01's rules for a call that does not stop: the unit's sizes and key, a nonce that no start which began had, a session that the list handed out,
--- the job handed out last with its start's staging; and for a power loss in a store
+-- the job handed out last with its start's staging; and for an update and a power loss in a store
 unfoldable pub Keeps : Setup → State → Event → Type 0
 Keeps u s (first-saved a) = (a .arguments .sizes ≡ u .sizes) × (a .arguments .key ≡ u .key) × (List·Memᴰ (a .arguments .nonce) (s .nonces) → ⊥)
 Keeps u s (saved a) =
@@ -218,7 +223,7 @@ Keeps u s (saved a) =
 Keeps u s (powered-up a) = (a .sizes ≡ u .sizes) × (a .key ≡ u .key) × (List·Memᴰ (a .nonce) (s .nonces) → ⊥)
 Keeps u s (advanced-by a) = (a .sizes ≡ u .sizes) × (s .handed ≡ some (record { job = a .job; staging = a .staging }))
 Keeps u s PowerLoss = Unit {0}
-Keeps u s Updated = Unit {0}
+Keeps u s (updated-to firmware) = Succeeds (s .firmware) firmware
 Keeps u s (lost-in-store left) = (h : Handed) × (s .handed ≡ some h) × Left (h .job .phase) (h .job) (u .sizes .slots) left
 
 -- a refused call may be given anything besides the memories

@@ -9,7 +9,7 @@ use lib.Dec.{eqb, ltb}
 use Rattle.octets.specs.Octets.{blank}
 use Rattle.checkpoint.specs.Checkpoint.{Form, Older, Longer, Checkpoint, sealed, own-tag}
 use Rattle.protocol.specs.Types.{Origin, Save, PowerUp}
-use Rattle.protocol.specs.Calls.{SaveArguments, FirstSave, Setup, Event, first-saved, saved, powered-up, advanced-by, PowerLoss, Updated, lost-in-store}
+use Rattle.protocol.specs.Calls.{SaveArguments, FirstSave, Setup, Event, first-saved, saved, powered-up, advanced-by, PowerLoss, updated-to, lost-in-store}
 
 -- a store to come
 pub data Store : Type 0 where
@@ -173,5 +173,5 @@ entered u form j (saved a) stopped = cond stopped j (saved-entry form (u .key) (
 entered u form j (powered-up a) stopped = cond stopped j (resumed-entry form (u .key) (a .nonce) (j .entry) j (u .sizes .slots))
 entered u form j (advanced-by a) stopped = cond stopped j (advanced j (j .draft))
 entered u form j PowerLoss stopped = dropped j
-entered u form j Updated stopped = dropped j
+entered u form j (updated-to firmware) stopped = dropped j
 entered u form j (lost-in-store left) stopped = lost-into j (j .draft) left

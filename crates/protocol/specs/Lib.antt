@@ -7,3 +7,4 @@ pub mod History
 pub mod Recovery
 pub mod Histories
 pub mod Older
+pub mod Beyond

@@ -1,4 +1,4 @@
--- The operations of older firmware are document 01's: its lists of stops, written out as its table has them, and its checkpoints.
+-- The operations of `first-firmware` are document 01's: its lists of stops, written out as its table has them, its limits included, and its checkpoints.
 use Prim.Native.Nat.{ℕ, _+_, _%_}
 use mathlib.Core.Path.{_≡_}
 use mathlib.Core.Bool.{Bool, not, _||_}
@@ -12,24 +12,25 @@ use Rattle.ring.specs.Ring.{ring-wrong, is-blank, is-unreadable, is-pending, ne
 use Rattle.checkpoint.specs.Fram.{fram-wrong, half-length}
 use Rattle.checkpoint.specs.Checkpoint.{Older, Checkpoint, head-words, part-wrong, own-tag, sealed-length}
 use Rattle.checkpoint.specs.Half.{stored-restarts, good-head, good-tag}
+use Rattle.protocol.specs.Types.{first-firmware}
 use Rattle.protocol.specs.Calls.{SaveArguments, FirstSave, Saves, PowersUp, Looks, Advances}
-use Rattle.protocol.specs.Operations.{key-wrong, nonce-wrong, tag-wrong, newest-in, newest-half, staging-wrong, state-wrong, stale, phase-wrong, first-checkpoint, save-checkpoint, resumed, first-save-stop, save-stop, power-up-stop, look-stop, advance-stop}
+use Rattle.protocol.specs.Operations.{key-wrong, nonce-wrong, tag-wrong, newest-in, newest-half, staging-wrong, stale, phase-wrong, first-checkpoint, save-checkpoint, resumed, first-save-stop, save-stop, power-up-stop, look-stop, advance-stop}
 
 -- stop 4 of both parts: the checkpoint is 44 bytes and both parts
 abbrev pub wrong-parts : List ℕ → SaveArguments → Bool
 wrong-parts fram a =
-    part-wrong (a .open-part) || part-wrong (a .secret) || ltb (half-length fram) (44 + length (a .open-part) + length (a .secret)) || staging-wrong (a .staging) fram
+    part-wrong 4096 (a .open-part) || part-wrong 4096 (a .secret) || ltb (half-length fram) (44 + length (a .open-part) + length (a .secret)) || staging-wrong (a .staging) fram
 
 pub record OlderStops (ring fram : List ℕ) : Type 0 where
-  pub first-save : (a : FirstSave) → first-save-stop Older ring fram a ≡ first-of (
+  pub first-save : (a : FirstSave) → first-save-stop first-firmware ring fram a ≡ first-of (
       (1, ring-wrong (a .arguments .sizes .pages) (a .arguments .sizes .slots) ring) ∷
-      (2, fram-wrong fram) ∷
+      (2, fram-wrong 131072 fram) ∷
       (3, key-wrong (length (a .arguments .key)) || nonce-wrong (length (a .arguments .nonce)) || tag-wrong (length (a .starting-tag))) ∷
       (4, wrong-parts fram (a .arguments)) ∷
       (5, not (blank ring)) ∷ [])
-  pub save : (a : Saves) → let n = newest-in ring (a .arguments .sizes) in save-stop Older ring fram a ≡ first-of (
+  pub save : (a : Saves) → let n = newest-in ring (a .arguments .sizes) in save-stop first-firmware ring fram a ≡ first-of (
       (1, ring-wrong (a .arguments .sizes .pages) (a .arguments .sizes .slots) ring) ∷
-      (2, fram-wrong fram) ∷
+      (2, fram-wrong 131072 fram) ∷
       (3, key-wrong (length (a .arguments .key)) || nonce-wrong (length (a .arguments .nonce))) ∷
       (4, wrong-parts fram (a .arguments)) ∷
       (6, is-blank n) ∷
@@ -37,28 +38,28 @@ pub record OlderStops (ring fram : List ℕ) : Type 0 where
       (8, stale ring (a .arguments .sizes .slots) n (a .session)) ∷
       (9, is-pending n) ∷
       (10, nonce-used ring (a .arguments .sizes .slots) n (a .arguments .nonce)) ∷ [])
-  pub power-up : (a : PowersUp) → let n = newest-in ring (a .sizes) in let half = newest-half ring fram (a .sizes .slots) n in power-up-stop Older ring fram a ≡ first-of (
+  pub power-up : (a : PowersUp) → let n = newest-in ring (a .sizes) in let half = newest-half ring fram (a .sizes .slots) n in power-up-stop first-firmware ring fram a ≡ first-of (
       (1, ring-wrong (a .sizes .pages) (a .sizes .slots) ring) ∷
-      (2, fram-wrong fram) ∷
+      (2, fram-wrong 131072 fram) ∷
       (3, key-wrong (length (a .key)) || nonce-wrong (length (a .nonce))) ∷
-      (4, staging-wrong (a .staging) fram || state-wrong (a .state)) ∷
+      (4, staging-wrong (a .staging) fram || ltb (length (a .state)) 4096) ∷
       (6, is-blank n) ∷
       (7, is-unreadable n) ∷
       (10, nonce-used ring (a .sizes .slots) n (a .nonce)) ∷
-      (11, not (good-head Older half)) ∷
+      (11, not (good-head 4096 Older half)) ∷
       (12, not (good-tag Older (a .key) (take nonce-length (newest-record ring (a .sizes .slots) n)) half)) ∷
       (13, eqb (stored-restarts Older half) restart-limit) ∷ [])
-  pub look : (a : Looks) → let n = newest-in ring (a .sizes) in let half = newest-half ring fram (a .sizes .slots) n in look-stop Older ring fram a ≡ first-of (
+  pub look : (a : Looks) → let n = newest-in ring (a .sizes) in let half = newest-half ring fram (a .sizes .slots) n in look-stop first-firmware ring fram a ≡ first-of (
       (1, ring-wrong (a .sizes .pages) (a .sizes .slots) ring) ∷
-      (2, fram-wrong fram) ∷
+      (2, fram-wrong 131072 fram) ∷
       (3, key-wrong (length (a .key))) ∷
       (6, is-blank n) ∷
       (7, is-unreadable n) ∷
-      (11, not (good-head Older half)) ∷
+      (11, not (good-head 4096 Older half)) ∷
       (12, not (good-tag Older (a .key) (take nonce-length (newest-record ring (a .sizes .slots) n)) half)) ∷ [])
-  pub advance : (a : Advances) → advance-stop Older ring fram a ≡ first-of (
+  pub advance : (a : Advances) → advance-stop first-firmware ring fram a ≡ first-of (
       (1, ring-wrong (a .sizes .pages) (a .sizes .slots) ring) ∷
-      (2, fram-wrong fram) ∷
+      (2, fram-wrong 131072 fram) ∷
       (4, staging-wrong (a .staging) fram) ∷ (
         14,
         not (eqb (a .job .length % 4) 0) || ltb (a .job .length) 44 || ltb (half-length fram) (a .job .length) || leb (a .sizes .pages) (a .job .page) ||

@@ -1,14 +1,15 @@
--- What each operation answers and leaves in the lent buffers (document 01, "What the unit calls" and "Stops, by the place of checking", and document 02, A.2).
+-- What each operation answers and leaves in the lent buffers (document 01, "What the unit calls" and "Stops, by the place of checking", and document 02, A.2 and A.5).
 -- A stop is the number of the first condition that holds, in a list with a line for each row of the papers that names the operation: rising, but
 -- 18 comes right after 4, and a power-up's second 4 after 13 (A.2).
--- `form` is that of the heads which the unit's firmware writes: at Older these are document 01's operations, and the code's promises are at Longer.
+-- `firmware` is the unit's, and `form` that of the heads which it writes: at `first-firmware` these are document 01's operations, and the code's
+-- promises are at `this-firmware`.
 use Prim.Native.Nat.{ℕ, _+_, _-_, _*_, _%_}
 use mathlib.Core.Bool.{Bool, true, false, not, cond, _&&_, _||_}
 use mathlib.Core.Option.{Option, none, some}
 use mathlib.Core.List.{List, [], _∷_}
 use lib.ListN.{length, take, replicate}
 use lib.Dec.{eqb, leb, ltb}
-use Rattle.octets.specs.Limits.{slot-length, part-limit, restart-limit, packet-limit, nonce-length, tag-length}
+use Rattle.octets.specs.Limits.{slot-length, restart-limit, packet-limit, nonce-length, tag-length}
 use Rattle.octets.specs.Octets.{part, put, blank}
 use Rattle.stops.specs.Stops.{first-of}
 pub use Rattle.gcm.specs.Calls.{key-wrong, nonce-wrong, tag-wrong}
@@ -16,7 +17,7 @@ use Rattle.ring.specs.Ring.{Newest, Blank, Unreadable, At, AtPending, ring-wron
 use Rattle.checkpoint.specs.Fram.{fram-wrong, half-length, half-at}
 use Rattle.checkpoint.specs.Checkpoint.{Form, Older, Longer, Checkpoint, head-length, empty-length, sealed-length, part-wrong, own-tag, sealed}
 use Rattle.checkpoint.specs.Half.{read-as, open-length, secret-length, stored-restarts, good-head, good-tag, stored}
-use Rattle.protocol.specs.Types.{Phase, EraseFirst, Words, Record, EraseAfter, Done, Origin, Save, PowerUp, Job, Session, Progress, GoingOn, Saved, Restored, Refused, Start, Begun, Stopped, Looked, Restarts, Unseen, Stretch}
+use Rattle.protocol.specs.Types.{Firmware, Phase, EraseFirst, Words, Record, EraseAfter, Done, Origin, Save, PowerUp, Job, Session, Progress, GoingOn, Saved, Restored, Refused, Start, Begun, Stopped, Looked, Restarts, Unseen, Stretch}
 use Rattle.protocol.specs.Calls.{Sizes, FirstSave, Saves, PowersUp, Looks, Advances}
 
 -- what reading a ring of these sizes finds
@@ -29,13 +30,14 @@ newest-in ring z = read-ring ring (z .pages) (z .slots)
 unfoldable pub staging-wrong : List ℕ → List ℕ → Bool
 staging-wrong staging fram = ltb (length staging) (half-length fram)
 
-unfoldable pub state-wrong : List ℕ → Bool
-state-wrong state = ltb (length state) part-limit
+unfoldable pub state-wrong : Firmware → List ℕ → Bool
+state-wrong firmware state = ltb (length state) (firmware .longest-part)
 
 -- stop 4, of both parts
-unfoldable pub parts-wrong : Form → List ℕ → List ℕ → List ℕ → Bool
-parts-wrong form open-part secret fram =
-    part-wrong open-part || part-wrong secret || ltb (half-length fram) (sealed-length form (length open-part) (length secret))
+unfoldable pub parts-wrong : Firmware → List ℕ → List ℕ → List ℕ → Bool
+parts-wrong firmware open-part secret fram =
+    part-wrong (firmware .longest-part) open-part || part-wrong (firmware .longest-part) secret ||
+    ltb (half-length fram) (sealed-length (firmware .form) (length open-part) (length secret))
 
 -- stop 4, of a half whose checkpoint, sealed anew in a form, outgrows it; only one of the older form sealed anew in the longer one does
 unfoldable pub outgrows : Form → List ℕ → Bool
@@ -166,19 +168,19 @@ first-phase (AtPending p q) = EraseFirst q
 unfoldable pub newest-half : (ring fram : List ℕ) → ℕ → Newest → List ℕ
 newest-half ring fram slots n = half-at fram (half-named (newest-record ring slots n))
 
-module _ (form : Form) (ring fram : List ℕ) where
+module _ (firmware : Firmware) (ring fram : List ℕ) where
   unfoldable pub first-save-stop : FirstSave → Option ℕ
   first-save-stop a = first-of (
       (1, ring-wrong (a .arguments .sizes .pages) (a .arguments .sizes .slots) ring) ∷
-      (2, fram-wrong fram) ∷
+      (2, fram-wrong (firmware .largest-fram) fram) ∷
       (3, key-wrong (length (a .arguments .key)) || nonce-wrong (length (a .arguments .nonce)) || tag-wrong (length (a .starting-tag))) ∷
-      (4, parts-wrong form (a .arguments .open-part) (a .arguments .secret) fram || staging-wrong (a .arguments .staging) fram) ∷
-      (18, packet-wrong form (a .arguments .packet)) ∷
+      (4, parts-wrong firmware (a .arguments .open-part) (a .arguments .secret) fram || staging-wrong (a .arguments .staging) fram) ∷
+      (18, packet-wrong (firmware .form) (a .arguments .packet)) ∷
       (5, not (blank ring)) ∷ [])
 
   unfoldable pub first-save : FirstSave → Begin
   first-save a =
-      let c = first-checkpoint form a in
+      let c = first-checkpoint (firmware .form) a in
       begin (first-save-stop a) (a .arguments .key) c (job-of (a .arguments .key) c (Words 0) Save 0 0 0) (a .arguments .staging) [] []
 
   unfoldable pub save-stop : Saves → Option ℕ
@@ -186,20 +188,20 @@ module _ (form : Form) (ring fram : List ℕ) where
       let n = newest-in ring (a .arguments .sizes) in
       first-of (
       (1, ring-wrong (a .arguments .sizes .pages) (a .arguments .sizes .slots) ring) ∷
-      (2, fram-wrong fram) ∷
+      (2, fram-wrong (firmware .largest-fram) fram) ∷
       (3, key-wrong (length (a .arguments .key)) || nonce-wrong (length (a .arguments .nonce))) ∷
-      (4, parts-wrong form (a .arguments .open-part) (a .arguments .secret) fram || staging-wrong (a .arguments .staging) fram) ∷
-      (18, packet-wrong form (a .arguments .packet)) ∷
+      (4, parts-wrong firmware (a .arguments .open-part) (a .arguments .secret) fram || staging-wrong (a .arguments .staging) fram) ∷
+      (18, packet-wrong (firmware .form) (a .arguments .packet)) ∷
       (6, is-blank n) ∷
       (7, is-unreadable n) ∷
-      (8, stale ring (a .arguments .sizes .slots) n (a .session) || session-wrong form (a .session)) ∷
+      (8, stale ring (a .arguments .sizes .slots) n (a .session) || session-wrong (firmware .form) (a .session)) ∷
       (9, is-pending n) ∷
       (10, nonce-used ring (a .arguments .sizes .slots) n (a .arguments .nonce)) ∷ [])
 
   unfoldable pub save : Saves → Begin
   save a =
       let n = newest-in ring (a .arguments .sizes) in
-      let c = save-checkpoint form a in
+      let c = save-checkpoint (firmware .form) a in
       begin (save-stop a) (a .arguments .key) c
       (job-of (a .arguments .key) c (Words 0) Save (1 - half-named (newest-record ring (a .arguments .sizes .slots) n))
       (target-page (a .arguments .sizes .pages) (a .arguments .sizes .slots) n) (target-slot (a .arguments .sizes .slots) n))
@@ -211,29 +213,29 @@ module _ (form : Form) (ring fram : List ℕ) where
       let half = newest-half ring fram (a .sizes .slots) n in
       first-of (
       (1, ring-wrong (a .sizes .pages) (a .sizes .slots) ring) ∷
-      (2, fram-wrong fram) ∷
+      (2, fram-wrong (firmware .largest-fram) fram) ∷
       (3, key-wrong (length (a .key)) || nonce-wrong (length (a .nonce))) ∷
-      (4, staging-wrong (a .staging) fram || state-wrong (a .state)) ∷
+      (4, staging-wrong (a .staging) fram || state-wrong firmware (a .state)) ∷
       (6, is-blank n) ∷
       (7, is-unreadable n) ∷
       (10, nonce-used ring (a .sizes .slots) n (a .nonce)) ∷
-      (11, not (good-head (read-as form half) half)) ∷
-      (12, not (good-tag (read-as form half) (a .key) (take nonce-length (newest-record ring (a .sizes .slots) n)) half)) ∷
-      (13, eqb (stored-restarts (read-as form half) half) restart-limit) ∷
-      (4, outgrows form half) ∷ [])
+      (11, not (good-head (firmware .longest-part) (read-as (firmware .form) half) half)) ∷
+      (12, not (good-tag (read-as (firmware .form) half) (a .key) (take nonce-length (newest-record ring (a .sizes .slots) n)) half)) ∷
+      (13, eqb (stored-restarts (read-as (firmware .form) half) half) restart-limit) ∷
+      (4, outgrows (firmware .form) half) ∷ [])
 
   -- the checkpoint that the newest record names
   unfoldable pub newest-checkpoint : PowersUp → Checkpoint
   newest-checkpoint a =
       let n = newest-in ring (a .sizes) in
       let half = newest-half ring fram (a .sizes .slots) n in
-      stored (read-as form half) (a .key) (take nonce-length (newest-record ring (a .sizes .slots) n)) half
+      stored (read-as (firmware .form) half) (a .key) (take nonce-length (newest-record ring (a .sizes .slots) n)) half
 
   unfoldable pub power-up : PowersUp → Begin
   power-up a =
       let n = newest-in ring (a .sizes) in
       let old = newest-checkpoint a in
-      let new = resumed form (a .key) (a .nonce) old in
+      let new = resumed (firmware .form) (a .key) (a .nonce) old in
       begin (power-up-stop a) (a .key) new
       (job-of (a .key) new (first-phase n) PowerUp (1 - half-named (newest-record ring (a .sizes .slots) n))
       (target-page (a .sizes .pages) (a .sizes .slots) n) (target-slot (a .sizes .slots) n))
@@ -247,34 +249,34 @@ module _ (form : Form) (ring fram : List ℕ) where
       let half = newest-half ring fram (a .sizes .slots) n in
       first-of (
       (1, ring-wrong (a .sizes .pages) (a .sizes .slots) ring) ∷
-      (2, fram-wrong fram) ∷
+      (2, fram-wrong (firmware .largest-fram) fram) ∷
       (3, key-wrong (length (a .key))) ∷
       (6, is-blank n) ∷
       (7, is-unreadable n) ∷
-      (11, not (good-head (read-as form half) half)) ∷
-      (12, not (good-tag (read-as form half) (a .key) (take nonce-length (newest-record ring (a .sizes .slots) n)) half)) ∷ [])
+      (11, not (good-head (firmware .longest-part) (read-as (firmware .form) half) half)) ∷
+      (12, not (good-tag (read-as (firmware .form) half) (a .key) (take nonce-length (newest-record ring (a .sizes .slots) n)) half)) ∷ [])
 
 -- look stores nothing
 unfoldable pub look-by : Option ℕ → ℕ → Looked
 look-by (some s) restarts = Unseen s
 look-by none restarts = Restarts restarts
 
-unfoldable pub look : Form → List ℕ → List ℕ → Looks → Looked
-look form ring fram a =
+unfoldable pub look : Firmware → List ℕ → List ℕ → Looks → Looked
+look firmware ring fram a =
     let half = newest-half ring fram (a .sizes .slots) (newest-in ring (a .sizes)) in
-    look-by (look-stop form ring fram a) (stored-restarts (read-as form half) half)
+    look-by (look-stop firmware ring fram a) (stored-restarts (read-as (firmware .form) half) half)
 
 -- the open part as a stretch of the FRAM image; an empty one, which document 01 leaves open, stands at 0
 unfoldable pub stretch-by : Option ℕ → ℕ → ℕ → Stretch
 stretch-by (some s) offset length = record { offset = 0; length = 0 }
 stretch-by none offset length = record { offset = offset; length = length }
 
-unfoldable pub open-stretch : Form → List ℕ → List ℕ → Looks → Stretch
-open-stretch form ring fram a =
+unfoldable pub open-stretch : Firmware → List ℕ → List ℕ → Looks → Stretch
+open-stretch firmware ring fram a =
     let n = newest-in ring (a .sizes) in
     let half = newest-half ring fram (a .sizes .slots) n in
-    stretch-by (look-stop form ring fram a) (half-named (newest-record ring (a .sizes .slots) n) * half-length fram + head-length (read-as form half))
-    (open-length (read-as form half) half)
+    stretch-by (look-stop firmware ring fram a) (half-named (newest-record ring (a .sizes .slots) n) * half-length fram + head-length (read-as (firmware .form) half))
+    (open-length (read-as (firmware .form) half) half)
 
 unfoldable pub stretch-of : List ℕ → Stretch → List ℕ
 stretch-of fram z = part fram (z .offset) (z .length)
@@ -323,12 +325,12 @@ job-wrong form j z ring fram =
     not (eqb (j .length % 4) 0) || ltb (j .length) (empty-length form) || ltb (half-length fram) (j .length) ||
     leb (z .pages) (j .page) || leb (z .slots) (j .slot) || ltb 1 (j .half) || phase-wrong (j .phase) j z ring
 
-unfoldable pub advance-stop : Form → List ℕ → List ℕ → Advances → Option ℕ
-advance-stop form ring fram a = first-of (
+unfoldable pub advance-stop : Firmware → List ℕ → List ℕ → Advances → Option ℕ
+advance-stop firmware ring fram a = first-of (
     (1, ring-wrong (a .sizes .pages) (a .sizes .slots) ring) ∷
-    (2, fram-wrong fram) ∷
+    (2, fram-wrong (firmware .largest-fram) fram) ∷
     (4, staging-wrong (a .staging) fram) ∷
-    (14, job-wrong form (a .job) (a .sizes) ring fram) ∷ [])
+    (14, job-wrong (firmware .form) (a .job) (a .sizes) ring fram) ∷ [])
 
 -- what an advance answers, and the memories it leaves
 pub record Moved : Type 0 where
@@ -375,5 +377,5 @@ unfoldable pub advance-by : Option ℕ → List ℕ → List ℕ → Advances �
 advance-by (some s) ring fram a = record { progress = Refused s; job = a .job; session = no-session; ring = ring; fram = fram }
 advance-by none ring fram a = store (a .job .phase) ring fram a
 
-unfoldable pub advance : Form → List ℕ → List ℕ → Advances → Moved
-advance form ring fram a = advance-by (advance-stop form ring fram a) ring fram a
+unfoldable pub advance : Firmware → List ℕ → List ℕ → Advances → Moved
+advance firmware ring fram a = advance-by (advance-stop firmware ring fram a) ring fram a

@@ -8,13 +8,13 @@ use mathlib.Core.List.{List, [], _∷_, _++_, List·Memᴰ}
 use mathlib.Core.Logic.{_↔_, _⊎_}
 use lib.ListN.{length, replicate, take}
 use lib.Dec.{T}
-use Rattle.octets.specs.Limits.{part-limit, restart-limit, key-length, nonce-length}
+use Rattle.octets.specs.Limits.{restart-limit, key-length, nonce-length}
 use Rattle.octets.specs.Octets.{put, blank}
 use Rattle.ring.specs.Ring.{At, ring-wrong, slot-at, half-named, read-ring}
 use Rattle.checkpoint.specs.Fram.{fram-wrong, half-length, half-at}
-use Rattle.checkpoint.specs.Checkpoint.{Form, Checkpoint, own-tag, sealed}
-use Rattle.protocol.specs.Types.{Restarts, Unseen, Session, Origin, Save, PowerUp, Progress, GoingOn, Restored, Saved, Refused, Start, Begun, Stopped}
-use Rattle.protocol.specs.Calls.{PowersUp, Looks, Advances, Setup, Event, first-saved, saved, powered-up, advanced-by, PowerLoss, Updated, lost-in-store}
+use Rattle.checkpoint.specs.Checkpoint.{Checkpoint, own-tag, sealed}
+use Rattle.protocol.specs.Types.{Firmware, Restarts, Unseen, Session, Origin, Save, PowerUp, Progress, GoingOn, Restored, Saved, Refused, Start, Begun, Stopped}
+use Rattle.protocol.specs.Calls.{PowersUp, Looks, Advances, Setup, Event, first-saved, saved, powered-up, advanced-by, PowerLoss, updated-to, lost-in-store}
 use Rattle.protocol.specs.Operations.{Begin, Moved, no-job, first-save-stop, first-save, save-stop, save, power-up-stop, power-up, look, open-stretch, stretch-of, advance-stop, advance, no-session, session-of}
 use Rattle.protocol.specs.Journal.{Draft, to-come, power-up-draft, stores-of}
 use Rattle.protocol.specs.History.{State, Handed, broken-ring, broken-fram, bytes-of, fresh, run, step, is-stop, is-stopped, refused, Keeps, Allowed}
@@ -27,9 +27,9 @@ start-answer (some x) = Stopped x
 
 -- an advance leaves its phase's store whole, and all else as it was: what a power loss in it would leave, with the whole store in its place
 pub record OneStore (s : State) (a : Advances) : Type 0 where
-  pub ring : advance (s .form) (s .ring) (s .fram) a .ring
+  pub ring : advance (s .firmware) (s .ring) (s .fram) a .ring
       ≡ broken-ring (a .job .phase) (s .ring) (a .sizes .slots) (a .job) (bytes-of (a .job .phase) (a .job) (a .sizes .slots) (a .staging))
-  pub fram : advance (s .form) (s .ring) (s .fram) a .fram
+  pub fram : advance (s .firmware) (s .ring) (s .fram) a .fram
       ≡ broken-fram (a .job .phase) (s .fram) (a .job) (bytes-of (a .job .phase) (a .job) (a .sizes .slots) (a .staging))
 
 unfoldable pub is-going : Progress → Bool
@@ -53,12 +53,12 @@ Advanced s a stop m =
 
 -- the call answers the first stop of its list that applies, and what a stop leaves is as it was
 unfoldable pub Exact : State → Event → Type 0
-Exact s (first-saved a) = Started (first-save-stop (s .form) (s .ring) (s .fram) a) (first-save (s .form) (s .ring) (s .fram) a) (a .arguments .staging) []
-Exact s (saved a) = Started (save-stop (s .form) (s .ring) (s .fram) a) (save (s .form) (s .ring) (s .fram) a) (a .arguments .staging) []
-Exact s (powered-up a) = Started (power-up-stop (s .form) (s .ring) (s .fram) a) (power-up (s .form) (s .ring) (s .fram) a) (a .staging) (a .state)
-Exact s (advanced-by a) = Advanced s a (advance-stop (s .form) (s .ring) (s .fram) a) (advance (s .form) (s .ring) (s .fram) a)
+Exact s (first-saved a) = Started (first-save-stop (s .firmware) (s .ring) (s .fram) a) (first-save (s .firmware) (s .ring) (s .fram) a) (a .arguments .staging) []
+Exact s (saved a) = Started (save-stop (s .firmware) (s .ring) (s .fram) a) (save (s .firmware) (s .ring) (s .fram) a) (a .arguments .staging) []
+Exact s (powered-up a) = Started (power-up-stop (s .firmware) (s .ring) (s .fram) a) (power-up (s .firmware) (s .ring) (s .fram) a) (a .staging) (a .state)
+Exact s (advanced-by a) = Advanced s a (advance-stop (s .firmware) (s .ring) (s .fram) a) (advance (s .firmware) (s .ring) (s .fram) a)
 Exact s PowerLoss = Unit {0}
-Exact s Updated = Unit {0}
+Exact s (updated-to firmware) = Unit {0}
 Exact s (lost-in-store left) = Unit {0}
 
 -- what the last advance of a job says
@@ -79,7 +79,7 @@ store-left (some d) = to-come (d .stores)
 abbrev pub Told : Setup → State → Advances → Type 0
 Told u s a =
     (refused s (advanced-by a) ≡ not (store-left (s .journal .draft)))
-    × (store-left (s .journal .draft) ≡ true → advance (s .form) (s .ring) (s .fram) a .progress ≡ said (step u s (advanced-by a) .journal .draft))
+    × (store-left (s .journal .draft) ≡ true → advance (s .firmware) (s .ring) (s .fram) a .progress ≡ said (step u s (advanced-by a) .journal .draft))
 
 unfoldable pub Follows : Setup → State → Event → Type 0
 Follows u s (first-saved a) = Unit {0}
@@ -87,7 +87,7 @@ Follows u s (saved a) = Unit {0}
 Follows u s (powered-up a) = Unit {0}
 Follows u s (advanced-by a) = Keeps u s (advanced-by a) → Told u s a
 Follows u s PowerLoss = Unit {0}
-Follows u s Updated = Unit {0}
+Follows u s (updated-to firmware) = Unit {0}
 Follows u s (lost-in-store left) = Unit {0}
 
 unfoldable pub Exactly : Setup → State → List Event → Type 0
@@ -96,10 +96,10 @@ Exactly u s (e ∷ more) = Exact s e × Follows u s e × Exactly u (step u s e) 
 
 -- ---- the last power-up
 
--- a unit's sizes and key are ones that pass, and its memories fit them
-pub record Fits (u : Setup) (ring fram : List ℕ) : Type 0 where
+-- a unit's sizes and key are ones that pass, its ring fits them, and its FRAM the firmware
+pub record Fits (u : Setup) (firmware : Firmware) (ring fram : List ℕ) : Type 0 where
   pub ring-right : ring-wrong (u .sizes .pages) (u .sizes .slots) ring ≡ false
-  pub fram-right : fram-wrong fram ≡ false
+  pub fram-right : fram-wrong (firmware .largest-fram) fram ≡ false
   pub key-right : length (u .key) ≡ key-length
 
 -- the last power-up: the unit's sizes and key, a nonce that no start which began had, and buffers that pass 1 to 4
@@ -109,7 +109,7 @@ pub record Last (u : Setup) (s : State) (a : PowersUp) : Type 0 where
   pub nonce-long : length (a .nonce) ≡ nonce-length
   pub nonce-new : List·Memᴰ (a .nonce) (s .nonces) → ⊥
   pub staging : half-length (s .fram) ≤ length (a .staging)
-  pub state : part-limit ≤ length (a .state)
+  pub state : s .firmware .longest-part ≤ length (a .state)
 
 unfoldable pub is-advance : Event → Bool
 is-advance (first-saved a) = false
@@ -117,7 +117,7 @@ is-advance (saved a) = false
 is-advance (powered-up a) = false
 is-advance (advanced-by a) = true
 is-advance PowerLoss = false
-is-advance Updated = false
+is-advance (updated-to firmware) = false
 is-advance (lost-in-store left) = false
 
 -- from state s the events are refused calls and advances of the job handed out last, and no power loss
@@ -130,9 +130,9 @@ unfoldable pub answered : State → Event → List Progress → List Progress
 answered s (first-saved a) later = later
 answered s (saved a) later = later
 answered s (powered-up a) later = later
-answered s (advanced-by a) later = advance (s .form) (s .ring) (s .fram) a .progress ∷ later
+answered s (advanced-by a) later = advance (s .firmware) (s .ring) (s .fram) a .progress ∷ later
 answered s PowerLoss later = later
-answered s Updated later = later
+answered s (updated-to firmware) later = later
 answered s (lost-in-store left) later = later
 
 -- what the advances among the events answer, without those that are refused
@@ -165,33 +165,33 @@ pub record Stands (u : Setup) (t : State) (new : Checkpoint) : Type 0 where
 
 -- from state s the power-up a resumes the entry c
 pub record Resumes (u : Setup) (s : State) (a : PowersUp) (c : Checkpoint) : Type 0 where
-  pub begins : power-up (s .form) (s .ring) (s .fram) a .answer ≡ Begun
-  pub length-answered : power-up (s .form) (s .ring) (s .fram) a .secret-length ≡ length (c .secret)
+  pub begins : power-up (s .firmware) (s .ring) (s .fram) a .answer ≡ Begun
+  pub length-answered : power-up (s .firmware) (s .ring) (s .fram) a .secret-length ≡ length (c .secret)
   -- no call of a list but a power-up is lent a state buffer, and one that stops leaves its own as it was: this still holds at 'restored'
-  pub restored : power-up (s .form) (s .ring) (s .fram) a .state ≡ put (a .state) 0 (c .secret)
+  pub restored : power-up (s .firmware) (s .ring) (s .fram) a .state ≡ put (a .state) 0 (c .secret)
   -- one advance for each store to come, with only refused calls between, runs it to its end, and every such run ends so;
   -- each of its calls stops exactly where demand 1 says, a stop leaves every buffer, and an advance makes one store
   pub runs :
       let t = step u s (powered-up a) in
-      let n = length (stores-of (u .key) (u .sizes .slots) (s .journal) (power-up-draft (s .form) (u .key) (a .nonce) c)) in
+      let n = length (stores-of (u .key) (u .sizes .slots) (s .journal) (power-up-draft (s .firmware .form) (u .key) (a .nonce) c)) in
       Uninterrupted u t (advances-of u n t) × (length (answers u (advances-of u n t) t) ≡ n)
   pub ends :
       let t = step u s (powered-up a) in
-      let n = length (stores-of (u .key) (u .sizes .slots) (s .journal) (power-up-draft (s .form) (u .key) (a .nonce) c)) in
+      let n = length (stores-of (u .key) (u .sizes .slots) (s .journal) (power-up-draft (s .firmware .form) (u .key) (a .nonce) c)) in
       (events : List Event) → Uninterrupted u t events → length (answers u events t) ≡ n
       → (answers u events t ≡ replicate (n - 1) GoingOn ++ Restored ∷ []) × Exactly u t events
-      × Stands u (run u t events) (power-up-draft (s .form) (u .key) (a .nonce) c)
+      × Stands u (run u t events) (power-up-draft (s .firmware .form) (u .key) (a .nonce) c)
 
 -- the checkpoint that the power-up a would seal anew of the entry c is longer than a half
 abbrev pub Outgrown : Setup → State → PowersUp → Checkpoint → Type 0
-Outgrown u s a c = half-length (s .fram) < length (sealed (u .key) (power-up-draft (s .form) (u .key) (a .nonce) c))
+Outgrown u s a c = half-length (s .fram) < length (sealed (u .key) (power-up-draft (s .firmware .form) (u .key) (a .nonce) c))
 
 -- 6 exactly if nothing was recorded; 13 exactly if 8 power-ups were recorded since the last record that set restarts to 0;
 -- 4 exactly if there is an entry, the power-ups are not 8, and the entry sealed anew outgrows the half; and else it resumes the entry
 pub record Outcome (u : Setup) (s : State) (a : PowersUp) : Type 0 where
-  pub nothing : (power-up (s .form) (s .ring) (s .fram) a .answer ≡ Stopped 6) ↔ (s .journal .entry ≡ none)
-  pub worn : (power-up (s .form) (s .ring) (s .fram) a .answer ≡ Stopped 13) ↔ (s .journal .power-ups ≡ restart-limit)
-  pub outgrown : (power-up (s .form) (s .ring) (s .fram) a .answer ≡ Stopped 4)
+  pub nothing : (power-up (s .firmware) (s .ring) (s .fram) a .answer ≡ Stopped 6) ↔ (s .journal .entry ≡ none)
+  pub worn : (power-up (s .firmware) (s .ring) (s .fram) a .answer ≡ Stopped 13) ↔ (s .journal .power-ups ≡ restart-limit)
+  pub outgrown : (power-up (s .firmware) (s .ring) (s .fram) a .answer ≡ Stopped 4)
       ↔ ((c : Checkpoint) × (s .journal .entry ≡ some c) × (s .journal .power-ups ≡ restart-limit → ⊥) × Outgrown u s a c)
   pub resumes : (c : Checkpoint) → s .journal .entry ≡ some c → (s .journal .power-ups ≡ restart-limit → ⊥) → (Outgrown u s a c → ⊥) → Resumes u s a c
 
@@ -202,15 +202,14 @@ looks u = record { sizes = u .sizes; key = u .key }
 
 -- look gives 6 if nothing was recorded, else the entry's restarts, and its companion the entry's open part
 pub record Seen (u : Setup) (s : State) : Type 0 where
-  pub nothing : s .journal .entry ≡ none → look (s .form) (s .ring) (s .fram) (looks u) ≡ Unseen 6
-  pub restarts : (c : Checkpoint) → s .journal .entry ≡ some c → look (s .form) (s .ring) (s .fram) (looks u) ≡ Restarts (c .restarts)
-  pub open-part : (c : Checkpoint) → s .journal .entry ≡ some c → stretch-of (s .fram) (open-stretch (s .form) (s .ring) (s .fram) (looks u)) ≡ c .open-part
+  pub nothing : s .journal .entry ≡ none → look (s .firmware) (s .ring) (s .fram) (looks u) ≡ Unseen 6
+  pub restarts : (c : Checkpoint) → s .journal .entry ≡ some c → look (s .firmware) (s .ring) (s .fram) (looks u) ≡ Restarts (c .restarts)
+  pub open-part : (c : Checkpoint) → s .journal .entry ≡ some c → stretch-of (s .fram) (open-stretch (s .firmware) (s .ring) (s .fram) (looks u)) ≡ c .open-part
 
--- `form` is that of the firmware which the unit begins with
+-- `firmware` is what the unit begins with, whatever its limits; the memories are to fit what it has after the list
 unfoldable pub Recovery : Type 0
 Recovery =
-    (u : Setup) (form : Form) (ring fram : List ℕ) → blank ring ≡ true
-    → (events : List Event) → Allowed u (fresh form ring fram) events
-    → Exactly u (fresh form ring fram) events
-    × (Fits u ring fram → Seen u (run u (fresh form ring fram) events)
-    × ((a : PowersUp) → Last u (run u (fresh form ring fram) events) a → Outcome u (run u (fresh form ring fram) events) a))
+    (u : Setup) (firmware : Firmware) (ring fram : List ℕ) → blank ring ≡ true
+    → (events : List Event) → Allowed u (fresh firmware ring fram) events
+    → Exactly u (fresh firmware ring fram) events
+    × (let s = run u (fresh firmware ring fram) events in Fits u (s .firmware) ring fram → Seen u s × ((a : PowersUp) → Last u s a → Outcome u s a))

@@ -1,6 +1,27 @@
--- What the operations take and answer (document 01, "What the unit calls", and document 02, A.2). A stop is one of the papers' numbers.
-use Prim.Native.Nat.{ℕ}
+-- What the operations take and answer (document 01, "What the unit calls", and document 02, A.2 and A.5). A stop is one of the papers' numbers.
+use Prim.Native.Nat.{ℕ, _≤_}
 use mathlib.Core.List.{List}
+use lib.Dec.{lit≤}
+use Rattle.octets.specs.Limits.{fram-limit, older-fram-limit, part-limit, older-part-limit, part-most}
+use Rattle.checkpoint.specs.Checkpoint.{Form, Older, Longer}
+
+-- a unit's firmware: the form of the heads that it writes, and the longest part and the largest FRAM image that it takes; the length of the longest
+-- part fits a word of the head
+pub record Firmware : Type 0 where
+  pub form : Form
+  pub longest-part : ℕ
+  pub largest-fram : ℕ
+  pub fits-word : longest-part ≤ part-most
+
+-- document 01's, that of document 02's A.2, and that of A.5, which is the code's
+abbrev pub first-firmware : Firmware
+first-firmware = record { form = Older; longest-part = older-part-limit; largest-fram = older-fram-limit; fits-word = lit≤ tt }
+
+abbrev pub packet-firmware : Firmware
+packet-firmware = record { form = Longer; longest-part = older-part-limit; largest-fram = older-fram-limit; fits-word = lit≤ tt }
+
+abbrev pub this-firmware : Firmware
+this-firmware = record { form = Longer; longest-part = part-limit; largest-fram = fram-limit; fits-word = lit≤ tt }
 
 -- the next store of a job: the page to erase, or the number of the word to store
 pub data Phase : Type 0 where
@@ -15,8 +36,8 @@ pub data Origin : Type 0 where
   Save : Origin
   PowerUp : Origin
 
--- half 0 is A and half 1 is B; page and slot are the target; tag, restarts and packet number are its checkpoint's (older firmware
--- does not hold the last two, and at Older nothing reads them)
+-- half 0 is A and half 1 is B; page and slot are the target; tag, restarts and packet number are its checkpoint's (document 01's
+-- firmware does not hold the last two, and at Older nothing reads them)
 pub record Job : Type 0 where
   pub phase : Phase
   pub origin : Origin

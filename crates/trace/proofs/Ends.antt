@@ -15,7 +15,7 @@ use Rattle.stops.proofs.Laws.{passes, neither}
 use Rattle.ring.specs.Ring.{page-before}
 use Rattle.checkpoint.specs.Fram.{half-length}
 use Rattle.checkpoint.specs.Checkpoint.{Longer, empty-length}
-use Rattle.protocol.specs.Types.{Phase, EraseFirst, Words, Record, EraseAfter, Done, Job}
+use Rattle.protocol.specs.Types.{Phase, EraseFirst, Words, Record, EraseAfter, Done, Job, this-firmware}
 use Rattle.protocol.specs.Calls.{Sizes, Advances}
 use Rattle.protocol.specs.Operations.{staging-wrong, Moved, in-phase, phase-wrong, job-wrong, going-on, ended, stored-word, recorded, erase-follows, after-record, store, advance-stop, advance-by, advance}
 use Rattle.protocol.specs.Recovery.{is-going}
@@ -31,11 +31,11 @@ abbrev call-of : List ℕ → Moved → Advances
 call-of staging m = record { sizes = bench-sizes; job = m .job; staging = staging }
 
 abbrev next : List ℕ → Moved → Moved
-next staging m = advance Longer (m .ring) (m .fram) (call-of staging m)
+next staging m = advance this-firmware (m .ring) (m .fram) (call-of staging m)
 
 -- n stores are enough for a job that is not refused at once and has no more
 abbrev Ends : List ℕ → ℕ → Type 0
-Ends staging n = (m : Moved) → 1 ≤ n → (advance-stop Longer (m .ring) (m .fram) (call-of staging m) ≡ none → left-of (m .job) ≤ n)
+Ends staging n = (m : Moved) → 1 ≤ n → (advance-stop this-firmware (m .ring) (m .fram) (call-of staging m) ≡ none → left-of (m .job) ≤ n)
     → is-going (stored-on n staging m .progress) ≡ false
 
 ends-more : (staging : List ℕ) (n : ℕ) → Ends staging n → Ends staging (suc n)
@@ -44,7 +44,7 @@ ends-more staging n ih m h f = going (is-going (m .progress)) refl
     still : is-going (next staging m .progress) ≡ false → is-going (stored-on n staging (next staging m) .progress) ≡ false
     still e = ap (λ (y : Moved). is-going (y .progress)) (stored-still n staging (next staging m) e) ∙ e
 
-    fewer : advance-stop Longer (m .ring) (m .fram) (call-of staging m) ≡ none → (b : Bool) → is-going (next staging m .progress) ≡ b
+    fewer : advance-stop this-firmware (m .ring) (m .fram) (call-of staging m) ≡ none → (b : Bool) → is-going (next staging m .progress) ≡ b
         → is-going (stored-on n staging (next staging m) .progress) ≡ false
     fewer e false g = still g
     fewer e true g =
@@ -52,13 +52,13 @@ ends-more staging n ih m h f = going (is-going (m .progress)) refl
         let l = f e in
         ih (next staging m) (omega (arith, k .0, k .1, l)) (λ q. omega (arith, k .1, l))
 
-    advanced : (o : Option ℕ) → advance-stop Longer (m .ring) (m .fram) (call-of staging m) ≡ o → is-going (stored-on n staging (next staging m) .progress) ≡ false
+    advanced : (o : Option ℕ) → advance-stop this-firmware (m .ring) (m .fram) (call-of staging m) ≡ o → is-going (stored-on n staging (next staging m) .progress) ≡ false
     advanced none e = fewer e (is-going (next staging m .progress)) refl
     advanced (some x) e = still (refused-still (m .ring) (m .fram) (call-of staging m) x e)
 
     going : (b : Bool) → is-going (m .progress) ≡ b → is-going (stored-on (suc n) staging m .progress) ≡ false
     going false e = ap (λ (y : Moved). is-going (y .progress)) (stored-still (suc n) staging m e) ∙ e
-    going true e = ap (λ (y : Moved). is-going (y .progress)) (stored-more n staging m e) ∙ advanced (advance-stop Longer (m .ring) (m .fram) (call-of staging m)) refl
+    going true e = ap (λ (y : Moved). is-going (y .progress)) (stored-more n staging m e) ∙ advanced (advance-stop this-firmware (m .ring) (m .fram) (call-of staging m)) refl
 
 ends : (staging : List ℕ) (n : ℕ) → Ends staging n
 ends staging zero m h f = absurd (omega arith)
@@ -92,19 +92,19 @@ inside zero n i e l = omega arith
 inside (suc zero) n i e l = omega arith
 inside (suc (suc h)) n i e l = absurd (omega arith)
 
-module _ (ring fram : List ℕ) (a : Advances) (s : advance-stop Longer ring fram a ≡ none) where
+module _ (ring fram : List ℕ) (a : Advances) (s : advance-stop this-firmware ring fram a ≡ none) where
   r : Right (a .job) fram
-  r = right (a .job) (a .sizes) ring fram (job-passes Longer ring fram a s)
+  r = right (a .job) (a .sizes) ring fram (job-passes this-firmware ring fram a s)
 
   staging-long : half-length fram ≤ length (a .staging)
   unfolding advance-stop staging-wrong
   staging-long = ltb-false (length (a .staging)) (half-length fram) (passes _ s .1 .1 .0)
 
   word-ends : (w : ℕ) → a .job .phase ≡ Words w → 4 * w + 4 ≤ a .job .length
-  word-ends w e = go (words-in-order Longer ring fram a w e s)
+  word-ends w e = go (words-in-order this-firmware ring fram a w e s)
     where
-      go : ((4 * (w + 1) < a .job .length) × (advance Longer ring fram a .job ≡ in-phase (a .job) (Words (w + 1))))
-          ⊎ ((4 * (w + 1) ≡ a .job .length) × (advance Longer ring fram a .job ≡ in-phase (a .job) Record))
+      go : ((4 * (w + 1) < a .job .length) × (advance this-firmware ring fram a .job ≡ in-phase (a .job) (Words (w + 1))))
+          ⊎ ((4 * (w + 1) ≡ a .job .length) × (advance this-firmware ring fram a .job ≡ in-phase (a .job) Record))
           → 4 * w + 4 ≤ a .job .length
       go (inl (h, f)) = omega (arith, h)
       go (inr (h, f)) = omega (arith, h)
@@ -129,11 +129,11 @@ module _ (ring fram : List ℕ) (a : Advances) (s : advance-stop Longer ring fra
   store-kept (EraseAfter p) e = refl
   store-kept Done e = refl
 
-advance-kept : (ring fram : List ℕ) (a : Advances) → length (advance Longer ring fram a .fram) ≡ length fram
+advance-kept : (ring fram : List ℕ) (a : Advances) → length (advance this-firmware ring fram a .fram) ≡ length fram
 unfolding advance advance-by
-advance-kept ring fram a = go (advance-stop Longer ring fram a) refl
+advance-kept ring fram a = go (advance-stop this-firmware ring fram a) refl
   where
-    go : (o : Option ℕ) → advance-stop Longer ring fram a ≡ o → length (advance-by o ring fram a .fram) ≡ length fram
+    go : (o : Option ℕ) → advance-stop this-firmware ring fram a ≡ o → length (advance-by o ring fram a .fram) ≡ length fram
     go (some x) e = refl
     go none e = store-kept ring fram a e (a .job .phase) refl
 
@@ -175,7 +175,7 @@ runs-on b w l c =
     let m = started (b .ring) (b .fram) s in
     ap (λ (o : Option ℕ). is-going (stored-on (stores-until o) (s .staging) m .progress)) c
     ∙ ends (s .staging) most-stores m (omega arith)
-    (λ e. omega (arith, left-most (m .job .phase) (m .job .length), right (m .job) bench-sizes (b .ring) (b .fram) (job-passes Longer (b .ring) (b .fram) (call-of (s .staging) m) e) .fits, l))
+    (λ e. omega (arith, left-most (m .job .phase) (m .job .length), right (m .job) bench-sizes (b .ring) (b .fram) (job-passes this-firmware (b .ring) (b .fram) (call-of (s .staging) m) e) .fits, l))
 
 pub runs-to-its-end : RunsToItsEnd
 unfolding RunsToItsEnd blank-bench

@@ -6,8 +6,8 @@ use mathlib.Core.Logic.{inr}
 use mathlib.Core.Option.{Option, none, some}
 use mathlib.Core.List.{List, [], _∷_, List·Memᴰ, List·Memᴰ·head, List·Memᴰ·tail}
 use native.Mathlib.Omega.{arith}
-use Rattle.checkpoint.specs.Checkpoint.{Longer, Checkpoint}
-use Rattle.protocol.specs.Types.{Session, Origin, Phase, EraseFirst, Words, Record, EraseAfter, Done, Progress, GoingOn, Saved, Restored, Refused}
+use Rattle.checkpoint.specs.Checkpoint.{Checkpoint}
+use Rattle.protocol.specs.Types.{Session, Origin, Phase, EraseFirst, Words, Record, EraseAfter, Done, Progress, GoingOn, Saved, Restored, Refused, this-firmware}
 use Rattle.protocol.specs.Calls.{Event, advanced-by}
 use Rattle.protocol.specs.Operations.{Moved, advance}
 use Rattle.protocol.specs.Journal.{Store, Journal, entered}
@@ -29,7 +29,7 @@ use Rattle.trace.specs.Rule.{bench-setup, advance-of, advances-while}
 pub record Beside (m : Moved) (t t′ : State) : Type 0 where
   pub ring : t′ .ring ≡ m .ring
   pub fram : t′ .fram ≡ m .fram
-  pub form : t′ .form ≡ Longer
+  pub firmware : t′ .firmware ≡ this-firmware
   pub nonces : t′ .nonces ≡ t .nonces
   pub kept : (z : Session) → List·Memᴰ z (t .sessions) → List·Memᴰ z (t′ .sessions)
   pub new : (z : Session) → session-from (m .progress) (m .session) none ≡ some z → List·Memᴰ z (t′ .sessions)
@@ -39,7 +39,7 @@ pub record Beside (m : Moved) (t t′ : State) : Type 0 where
 pub record Out (m : Moved) (staging : List ℕ) (t : State) (h : Handed) : Type 0 where
   pub ring : t .ring ≡ m .ring
   pub fram : t .fram ≡ m .fram
-  pub form : t .form ≡ Longer
+  pub firmware : t .firmware ≡ this-firmware
   pub handed : t .handed ≡ some h
   pub job : h .job ≡ m .job
   pub lent : h .staging ≡ staging
@@ -60,7 +60,7 @@ none-handed p new z e k = not-some z (ap (λ (q : Progress). session-from q new 
 
 -- the answer to an advance of the job, and what it leaves
 abbrev answer : State → Handed → Moved
-answer t h = advance (t .form) (t .ring) (t .fram) (advance-of h)
+answer t h = advance (t .firmware) (t .ring) (t .fram) (advance-of h)
 
 abbrev next : State → Handed → State
 next t h = history.step bench-setup t (advanced-by (advance-of h))
@@ -71,7 +71,7 @@ unfolding advances-while with-handed
 advances-on n t h e = ap (λ (o : Option Handed). with-handed o (λ h. advanced-by (advance-of h) ∷ cond (is-going (answer t h .progress)) (advances-while n (next t h)) [])) e
 
 abbrev journal : State → Handed → Journal
-journal t h = entered bench-setup (t .form) (t .journal) (advanced-by (advance-of h)) (refused t (advanced-by (advance-of h)))
+journal t h = entered bench-setup (t .firmware .form) (t .journal) (advanced-by (advance-of h)) (refused t (advanced-by (advance-of h)))
 
 next-is : (t : State) (h : Handed) (p : Progress) → answer t h .progress ≡ p → next t h ≡ moved t p (answer t h) (h .staging) (journal t h)
 unfolding history.step left-by
@@ -94,13 +94,13 @@ not-refused : (t : State) (h : Handed) → Holds bench-setup t → t .handed ≡
 not-refused t h inv e l = not-refused-in t h inv l (h .job .phase) refl (inv .doing h e)
 
 -- what an advance leaves, by what it answers
-beside-next : (t : State) (h : Handed) (p : Progress) → t .form ≡ Longer → is-stopped (answer t h .progress) ≡ false → answer t h .progress ≡ p → Beside (answer t h) t (moved t p (answer t h) (h .staging) (journal t h))
+beside-next : (t : State) (h : Handed) (p : Progress) → t .firmware ≡ this-firmware → is-stopped (answer t h .progress) ≡ false → answer t h .progress ≡ p → Beside (answer t h) t (moved t p (answer t h) (h .staging) (journal t h))
 unfolding moved session-from
-beside-next t h GoingOn f g e = record { ring = refl; fram = refl; form = f; nonces = refl; kept = λ z m. m; new = λ z k. absurd (none-handed _ _ z e k); unrefused = g }
+beside-next t h GoingOn f g e = record { ring = refl; fram = refl; firmware = f; nonces = refl; kept = λ z m. m; new = λ z k. absurd (none-handed _ _ z e k); unrefused = g }
 beside-next t h Saved f g e = record {
   ring = refl;
   fram = refl;
-  form = f;
+  firmware = f;
   nonces = refl;
   kept = λ z m. List·Memᴰ·tail m;
   new = λ z k. List·Memᴰ·head (some-is z _ (sym (ap (λ (q : Progress). session-from q (answer t h .session) none) e) ∙ k));
@@ -109,7 +109,7 @@ beside-next t h Saved f g e = record {
 beside-next t h Restored f g e = record {
   ring = refl;
   fram = refl;
-  form = f;
+  firmware = f;
   nonces = refl;
   kept = λ z m. List·Memᴰ·tail m;
   new = λ z k. List·Memᴰ·head (some-is z _ (sym (ap (λ (q : Progress). session-from q (answer t h .session) none) e) ∙ k));
@@ -118,7 +118,7 @@ beside-next t h Restored f g e = record {
 beside-next t h (Refused n) f g e = record {
   ring = refl;
   fram = refl;
-  form = f;
+  firmware = f;
   nonces = refl;
   kept = λ z m. m;
   new = λ z k. absurd (not-some z (sym (ap (λ (q : Progress). session-from q (answer t h .session) none) e) ∙ k));
@@ -130,7 +130,7 @@ beside-on : {m m′ : Moved} {t t′ t″ : State} → Beside m t t′ → Besid
 beside-on a b = record {
   ring = b .ring;
   fram = b .fram;
-  form = b .form;
+  firmware = b .firmware;
   nonces = b .nonces ∙ a .nonces;
   kept = λ z k. b .kept z (a .kept z k);
   new = b .new;
@@ -150,7 +150,7 @@ module _ (staging : List ℕ) where
     record {
       ring = o .ring;
       fram = o .fram;
-      form = o .form;
+      firmware = o .firmware;
       nonces = refl;
       kept = λ z k. k;
       new = λ z k. absurd (none-handed _ _ z (o .going) k);
@@ -160,8 +160,8 @@ module _ (staging : List ℕ) where
 
   module _ (n : ℕ) (ih : (m : Moved) (t : State) (h : Handed) → Out m staging t h → Moves n staging m t) (m : Moved) (t : State) (h : Handed) (o : Out m staging t h) where
     -- the answer is the trace's
-    same : answer t h ≡ advance Longer (m .ring) (m .fram) (record { sizes = bench-sizes; job = m .job; staging = staging })
-    same i = advance (o .form i) (o .ring i) (o .fram i) (record { sizes = bench-sizes; job = o .job i; staging = o .lent i })
+    same : answer t h ≡ advance this-firmware (m .ring) (m .fram) (record { sizes = bench-sizes; job = m .job; staging = staging })
+    same i = advance (o .firmware i) (o .ring i) (o .fram i) (record { sizes = bench-sizes; job = o .job i; staging = o .lent i })
 
     -- the answer, and at most n stores more
     stored : stored-on (suc n) staging m ≡ stored-on n staging (answer t h)
@@ -182,7 +182,7 @@ module _ (staging : List ℕ) where
     unfolding run Allowed
     on more e allowed beside p a =
         let list : advances-while (suc n) t ≡ advanced-by (advance-of h) ∷ more = advances-on n t h (o .handed) ∙ ap (λ (l : List Event). advanced-by (advance-of h) ∷ l) e in
-        let first : Beside (answer t h) t (next t h) = subst (λ (y : State). Beside (answer t h) t y) (sym (next-is t h p a)) (beside-next t h p (o .form) answered a) in
+        let first : Beside (answer t h) t (next t h) = subst (λ (y : State). Beside (answer t h) t y) (sym (next-is t h p a)) (beside-next t h p (o .firmware) answered a) in
         subst (λ (l : List Event). Allowed bench-setup t l × Beside (stored-on (suc n) staging m) t (run bench-setup t l)) (sym list)
         ((inr handed-out, allowed), subst (λ (y : Moved). Beside y t (run bench-setup (next t h) more)) (sym stored) (beside-on first beside))
 
@@ -192,11 +192,11 @@ module _ (staging : List ℕ) where
         let g : is-going (answer t h .progress) ≡ false = ap is-going a ∙ e in
         on [] (ap (λ (b : Bool). cond b (advances-while n (next t h)) []) g) tt
         (subst (λ (y : Moved). Beside y (next t h) (next t h)) (sym (stored-still n staging (answer t h) g))
-        (let first = beside-next t h p (o .form) answered a in
+        (let first = beside-next t h p (o .firmware) answered a in
         subst (λ (y : State). Beside (answer t h) y y) (sym (next-is t h p a)) (record {
           ring = first .ring;
           fram = first .fram;
-          form = first .form;
+          firmware = first .firmware;
           nonces = refl;
           kept = λ z k. k;
           new = first .new;
@@ -215,7 +215,7 @@ module _ (staging : List ℕ) where
         let x = ih (answer t h) (next t h) (record { job = answer t h .job; staging = h .staging }) (record {
           ring = ap (λ (y : State). y .ring) is;
           fram = ap (λ (y : State). y .fram) is;
-          form = ap (λ (y : State). y .form) is ∙ o .form;
+          firmware = ap (λ (y : State). y .firmware) is ∙ o .firmware;
           handed = ap (λ (y : State). y .handed) is;
           job = refl;
           lent = o .lent;

@@ -11,12 +11,13 @@ use lib.Dec.{T, eqb, lit<}
 use lib.ListN.{length, length-replicate}
 use Rattle.octets.specs.Octets.{blank}
 use Rattle.octets.proofs.Laws.{blank-erased}
-use Rattle.octets.specs.Limits.{part-limit, nonce-length}
+use Rattle.octets.specs.Limits.{fram-limit, part-limit, nonce-length}
 use Rattle.octets.proofs.Numbers.{length-bytes}
 use Rattle.ring.specs.Ring.{Newest, Blank, Unreadable, At, AtPending, ring-wrong}
-use Rattle.checkpoint.specs.Checkpoint.{Longer, Checkpoint}
+use Rattle.checkpoint.proofs.FramLaws.{an-image}
+use Rattle.checkpoint.specs.Checkpoint.{Checkpoint}
 use Rattle.checkpoint.specs.Fram.{fram-wrong, half-length}
-use Rattle.protocol.specs.Types.{Job, Session, Progress, GoingOn, Saved, Restored, Refused, Start, Begun, Stopped}
+use Rattle.protocol.specs.Types.{Job, Session, Progress, GoingOn, Saved, Restored, Refused, Start, Begun, Stopped, Firmware, this-firmware}
 use Rattle.protocol.specs.Calls.{Event, first-saved, saved, powered-up}
 use Rattle.protocol.specs.Operations.{Begin, begin, job-of, first-phase, Moved, no-session, first-save, save, power-up}
 use Rattle.protocol.specs.Journal.{Journal}
@@ -44,7 +45,7 @@ use Rattle.trace.proofs.Moves.{moves}
 record Opened (s t : State) (b : Begin) (nonce : List ℕ) : Type 0 where
   ring : t .ring ≡ s .ring
   fram : t .fram ≡ s .fram
-  form : t .form ≡ s .form
+  firmware : t .firmware ≡ s .firmware
   handed : t .handed ≡ some (record { job = b .job; staging = b .staging })
   sessions : t .sessions ≡ s .sessions
   nonces : t .nonces ≡ nonce ∷ s .nonces
@@ -63,7 +64,7 @@ opened s answer b c nonce j e f =
     record {
       ring = ap (λ (y : State). y .ring) t;
       fram = ap (λ (y : State). y .fram) t;
-      form = ap (λ (y : State). y .form) t;
+      firmware = ap (λ (y : State). y .firmware) t;
       handed = ap (λ (y : State). y .handed) t ∙ ap (λ (y : Begin). some (record { job = y .job; staging = y .staging })) f;
       sessions = ap (λ (y : State). y .sessions) t;
       nonces = ap (λ (y : State). y .nonces) t;
@@ -73,7 +74,7 @@ opened s answer b c nonce j e f =
 record Like (b : Bench) (s : State) (words : List ℕ) : Type 0 where
   ring : s .ring ≡ b .ring
   fram : s .fram ≡ b .fram
-  form : s .form ≡ Longer
+  firmware : s .firmware ≡ this-firmware
   session : (z : Session) → b .session ≡ some z → List·Memᴰ z (s .sessions)
   holds : Holds bench-setup s
   long : length (b .fram) ≡ fram-length
@@ -82,11 +83,11 @@ record Like (b : Bench) (s : State) (words : List ℕ) : Type 0 where
 stopped-not-begun : (x : ℕ) → Stopped x ≡ Begun → ⊥
 stopped-not-begun x e = let z : _≡_ {A = ℕ} 0 1 = cc in omega arith
 
-module _ (s : State) (ring fram : List ℕ) (er : s .ring ≡ ring) (ef : s .fram ≡ fram) (eo : s .form ≡ Longer) (v : ℕ) (small : v < 2 ^ 28) where
-  first-call : CallOf s (first-saved (first-saving v bench-staging)) (first-save Longer ring fram (first-saving v bench-staging)) (nonce-of v)
+module _ (s : State) (ring fram : List ℕ) (er : s .ring ≡ ring) (ef : s .fram ≡ fram) (eo : s .firmware ≡ this-firmware) (v : ℕ) (small : v < 2 ^ 28) where
+  first-call : CallOf s (first-saved (first-saving v bench-staging)) (first-save this-firmware ring fram (first-saving v bench-staging)) (nonce-of v)
   unfolding refused history.step left-by Keeps call-answer
   first-call =
-      let same : first-save (s .form) (s .ring) (s .fram) (first-saving v bench-staging) ≡ first-save Longer ring fram (first-saving v bench-staging) =
+      let same : first-save (s .firmware) (s .ring) (s .fram) (first-saving v bench-staging) ≡ first-save this-firmware ring fram (first-saving v bench-staging) =
       λ i. first-save (eo i) (er i) (ef i) (first-saving v bench-staging) in
       record {
         stops = ap (λ (y : Begin). is-stop (y .answer)) same;
@@ -99,9 +100,9 @@ module _ (s : State) (ring fram : List ℕ) (er : s .ring ≡ ring) (ef : s .fra
       → CallOf s (saved (saving v bench-staging (given o))) (save-with ring fram o v bench-staging) (nonce-of v)
   unfolding refused history.step left-by Keeps call-answer save-with is-stop
   save-call inv long none m =
-      let x = no-session-stops (s .form) (s .ring) (s .fram) (saving v bench-staging no-session) refl in
-      let r : is-stop (save (s .form) (s .ring) (s .fram) (saving v bench-staging no-session) .answer) ≡ true = ap is-stop (x .1) in
-      let answer : save (s .form) (s .ring) (s .fram) (saving v bench-staging no-session) .answer ≡ Stopped (cond (blank ring) 6 8) =
+      let x = no-session-stops (s .firmware) (s .ring) (s .fram) (saving v bench-staging no-session) refl in
+      let r : is-stop (save (s .firmware) (s .ring) (s .fram) (saving v bench-staging no-session) .answer) ≡ true = ap is-stop (x .1) in
+      let answer : save (s .firmware) (s .ring) (s .fram) (saving v bench-staging no-session) .answer ≡ Stopped (cond (blank ring) 6 8) =
       (λ i. save (eo i) (s .ring) (s .fram) (saving v bench-staging no-session) .answer) ∙ without-session s inv long v small ∙ ap (λ (y : List ℕ). Stopped (cond (blank y) 6 8)) er in
       record {
         stops = r;
@@ -110,7 +111,7 @@ module _ (s : State) (ring fram : List ℕ) (er : s .ring ≡ ring) (ef : s .fra
         keeps = λ n. inl (T-true _ r);
       }
   save-call inv long (some z) m =
-      let same : save (s .form) (s .ring) (s .fram) (saving v bench-staging z) ≡ save Longer ring fram (saving v bench-staging z) =
+      let same : save (s .firmware) (s .ring) (s .fram) (saving v bench-staging z) ≡ save this-firmware ring fram (saving v bench-staging z) =
       λ i. save (eo i) (er i) (ef i) (saving v bench-staging z) in
       record {
         stops = ap (λ (y : Begin). is-stop (y .answer)) same;
@@ -119,10 +120,10 @@ module _ (s : State) (ring fram : List ℕ) (er : s .ring ≡ ring) (ef : s .fra
         keeps = λ n. inr (refl, refl, n, m z refl);
       }
 
-  power-up-call : CallOf s (powered-up (powering-up v bench-staging)) (power-up Longer ring fram (powering-up v bench-staging)) (nonce-of v)
+  power-up-call : CallOf s (powered-up (powering-up v bench-staging)) (power-up this-firmware ring fram (powering-up v bench-staging)) (nonce-of v)
   unfolding refused history.step left-by Keeps call-answer
   power-up-call =
-      let same : power-up (s .form) (s .ring) (s .fram) (powering-up v bench-staging) ≡ power-up Longer ring fram (powering-up v bench-staging) =
+      let same : power-up (s .firmware) (s .ring) (s .fram) (powering-up v bench-staging) ≡ power-up this-firmware ring fram (powering-up v bench-staging) =
       λ i. power-up (eo i) (er i) (ef i) (powering-up v bench-staging) in
       record {
         stops = ap (λ (y : Begin). is-stop (y .answer)) same;
@@ -133,7 +134,7 @@ module _ (s : State) (ring fram : List ℕ) (er : s .ring ≡ ring) (ef : s .fra
 
   any-call : Holds bench-setup s → length (s .fram) ≡ fram-length → (first again : Bool) (o : Option Session) → ((z : Session) → o ≡ some z → List·Memᴰ z (s .sessions))
       → CallOf s (cond first (first-saved (first-saving v bench-staging)) (cond again (saved (saving v bench-staging (given o))) (powered-up (powering-up v bench-staging))))
-      (cond first (first-save Longer ring fram (first-saving v bench-staging)) (cond again (save-with ring fram o v bench-staging) (power-up Longer ring fram (powering-up v bench-staging)))) (nonce-of v)
+      (cond first (first-save this-firmware ring fram (first-saving v bench-staging)) (cond again (save-with ring fram o v bench-staging) (power-up this-firmware ring fram (powering-up v bench-staging)))) (nonce-of v)
   any-call inv long true again o m = first-call
   any-call inv long false true o m = save-call inv long o m
   any-call inv long false false o m = power-up-call
@@ -146,7 +147,7 @@ start-of b w = start (b .ring) (b .fram) (b .session) w bench-staging
 
 called : (b : Bench) (s : State) (w : ℕ) (words : List ℕ) → Like b s words → CallOf s (call (b .session) w) (start-of b w) (nonce-of (value w))
 unfolding call start
-called b s w words l = any-call s (b .ring) (b .fram) (l .ring) (l .fram) (l .form) (value w) (mod-lt w (lit< tt)) (l .holds) (ap length (l .fram) ∙ l .long) (eqb (kind w) 1) (eqb (kind w) 2) (b .session) (l .session)
+called b s w words l = any-call s (b .ring) (b .fram) (l .ring) (l .fram) (l .firmware) (value w) (mod-lt w (lit< tt)) (l .holds) (ap length (l .fram) ∙ l .long) (eqb (kind w) 1) (eqb (kind w) 2) (b .session) (l .session)
 
 -- a start that begins has a store to come
 begin-to-come : (o : Option ℕ) (key : List ℕ) (c : Checkpoint) (job : Job) (staging state secret : List ℕ) → begin o key c job staging state secret .answer ≡ Begun
@@ -163,8 +164,8 @@ first-phase-left (At p q) k = omega arith
 first-phase-left (AtPending p q) k = omega arith
 
 kind-to-come : (ring fram : List ℕ) (o : Option Session) (v : ℕ) (first again : Bool)
-    → cond first (first-save Longer ring fram (first-saving v bench-staging)) (cond again (save-with ring fram o v bench-staging) (power-up Longer ring fram (powering-up v bench-staging))) .answer ≡ Begun
-    → 1 ≤ left-of (cond first (first-save Longer ring fram (first-saving v bench-staging)) (cond again (save-with ring fram o v bench-staging) (power-up Longer ring fram (powering-up v bench-staging))) .job)
+    → cond first (first-save this-firmware ring fram (first-saving v bench-staging)) (cond again (save-with ring fram o v bench-staging) (power-up this-firmware ring fram (powering-up v bench-staging))) .answer ≡ Begun
+    → 1 ≤ left-of (cond first (first-save this-firmware ring fram (first-saving v bench-staging)) (cond again (save-with ring fram o v bench-staging) (power-up this-firmware ring fram (powering-up v bench-staging))) .job)
 unfolding first-save save power-up save-with job-of left
 kind-to-come ring fram o v true again e = begin-to-come _ _ _ _ _ _ _ e (omega arith)
 kind-to-come ring fram none v false true e = absurd (stopped-not-begun _ e)
@@ -187,7 +188,7 @@ unrefused-line (Refused n) ring e = no-fact e
 record Comes (b : Bench) (s t : State) (w : ℕ) : Type 0 where
   ring : t .ring ≡ operation b w .ring
   fram : t .fram ≡ operation b w .fram
-  form : t .form ≡ Longer
+  firmware : t .firmware ≡ this-firmware
   kept : (z : Session) → List·Memᴰ z (s .sessions) → List·Memᴰ z (t .sessions)
   new : (z : Session) → session-from (operation b w .progress) (operation b w .session) none ≡ some z → List·Memᴰ z (t .sessions)
   used : (n : List ℕ) → List·Memᴰ n (t .nonces) → (n ≡ nonce-of (value w)) ⊎ List·Memᴰ n (s .nonces)
@@ -227,7 +228,7 @@ module _ (b : Bench) (s : State) (w : ℕ) (more : List ℕ) (l : Like b s (w �
         subst (λ (y : State). Comes b s y w) (sym t) (record {
           ring = l .ring ∙ sym (ap (λ (y : Moved). y .ring) m);
           fram = l .fram ∙ sym (ap (λ (y : Moved). y .fram) m);
-          form = l .form;
+          firmware = l .firmware;
           kept = λ z k. k;
           new = λ z k. absurd (nothing z (sym (ap (λ (y : Moved). session-from (y .progress) (y .session) none) m ∙ ap (λ (a : Start). session-from (start-progress a) no-session none) e) ∙ k));
           used = λ n k. inr k;
@@ -249,7 +250,7 @@ module _ (b : Bench) (s : State) (w : ℕ) (more : List ℕ) (l : Like b s (w �
       let x = moves (start-of b w .staging) (stores-until (b .cut)) (started (b .ring) (b .fram) (start-of b w)) t (record { job = start-of b w .job; staging = start-of b w .staging }) (record {
         ring = o .ring ∙ l .ring;
         fram = o .fram ∙ l .fram;
-        form = o .form ∙ l .form;
+        firmware = o .firmware ∙ l .firmware;
         handed = o .handed;
         job = refl;
         lent = refl;
@@ -263,7 +264,7 @@ module _ (b : Bench) (s : State) (w : ℕ) (more : List ℕ) (l : Like b s (w �
         record {
           ring = x .1 .ring;
           fram = x .1 .fram;
-          form = x .1 .form;
+          firmware = x .1 .firmware;
           kept = λ z k. x .1 .kept z (subst (λ (y : List Session). List·Memᴰ z y) (sym (o .sessions)) k);
           new = x .1 .new;
           used = λ n k. List·Memᴰ·cases-cons (subst (λ (y : List (List ℕ)). List·Memᴰ n y) (x .1 .nonces ∙ o .nonces) k);
@@ -286,14 +287,14 @@ module _ (b : Bench) (s : State) (w : ℕ) (more : List ℕ) (l : Like b s (w �
 record Same (s t : State) : Type 0 where
   ring : t .ring ≡ s .ring
   fram : t .fram ≡ s .fram
-  form : t .form ≡ s .form
+  firmware : t .firmware ≡ s .firmware
   sessions : t .sessions ≡ s .sessions
   nonces : t .nonces ≡ s .nonces
 
 lost : (cut : Option ℕ) (s : State) → Allowed bench-setup s (loss-if cut) × Same s (run bench-setup s (loss-if cut))
 unfolding loss-if run Allowed Keeps history.step left-by
-lost none s = (tt, record { ring = refl; fram = refl; form = refl; sessions = refl; nonces = refl })
-lost (some n) s = ((inr tt, tt), record { ring = refl; fram = refl; form = refl; sessions = refl; nonces = refl })
+lost none s = (tt, record { ring = refl; fram = refl; firmware = refl; sessions = refl; nonces = refl })
+lost (some n) s = ((inr tt, tt), record { ring = refl; fram = refl; firmware = refl; sessions = refl; nonces = refl })
 
 -- the session of the unit after an operation is handed out in the list
 session-in : (b : Bench) (s t : State) (w : ℕ) (words : List ℕ) → Like b s words → Comes b s t w → (cut : Option ℕ) (z : Session)
@@ -337,7 +338,7 @@ operates b s w more l op d =
         record {
           ring = ap (λ (q : State). q .ring) path ∙ y .1 .ring ∙ x .1 .ring;
           fram = ap (λ (q : State). q .fram) path ∙ y .1 .fram ∙ x .1 .fram;
-          form = ap (λ (q : State). q .form) path ∙ y .1 .form ∙ x .1 .form;
+          firmware = ap (λ (q : State). q .firmware) path ∙ y .1 .firmware ∙ x .1 .firmware;
           session = λ z e. subst (λ (q : List Session). List·Memᴰ z q) (sym (ap (λ (q : State). q .sessions) path ∙ y .1 .sessions)) (session-in b s t w (w ∷ more) l (x .1) (b .cut) z e);
           holds = hold-run bench-setup (events ++ loss-if (b .cut)) s (l .holds) allowed;
           long = operation-kept b w ∙ l .long;
@@ -362,7 +363,7 @@ sets b s w n more l e = (
   record {
     ring = l .ring;
     fram = l .fram;
-    form = l .form;
+    firmware = l .firmware;
     session = l .session;
     holds = l .holds;
     long = l .long;
@@ -399,7 +400,7 @@ blank-ring : blank (blank-bench .ring) ≡ true
 unfolding blank-bench
 blank-ring = blank-erased ring-length
 
-fits : Fits bench-setup (blank-bench .ring) (blank-bench .fram)
+fits : Fits bench-setup this-firmware (blank-bench .ring) (blank-bench .fram)
 unfolding blank-bench ring-wrong fram-wrong
 fits = record { ring-right = refl; fram-right = refl; key-right = refl }
 
@@ -416,9 +417,9 @@ unfolding blank-state fresh
 like-blank words = record {
   ring = refl;
   fram = refl;
-  form = refl;
+  firmware = refl;
   session = λ z e. absurd (no-session-held z e);
-  holds = hold-fresh bench-setup Longer (blank-bench .ring) (blank-bench .fram) (fits .ring-right) (fits .fram-right) blank-ring;
+  holds = hold-fresh bench-setup this-firmware (blank-bench .ring) (blank-bench .fram) (fits .ring-right) (an-image fram-limit (blank-bench .fram) (fits .fram-right)) blank-ring;
   long = blank-long;
   unused = λ n m k. List·Memᴰ·not-nil m;
 }
@@ -432,18 +433,18 @@ last-call words w op l = record {
   nonce-long = length-bytes nonce-length (value w);
   nonce-new = λ m. l .unused _ m (rw op (List·Memᴰ·head refl));
   staging = let e = ap length (l .fram) ∙ l .long in omega (arith, e, length-replicate {A = ℕ} bench-half 0);
-  state = let e = length-replicate {A = ℕ} part-limit 0 in omega (arith, e);
+  state = rw (l .firmware) (omega (arith, length-replicate {A = ℕ} part-limit 0));
 }
 
 pub trace-recovery : TraceRecovery
 unfolding TraceRecovery Recovery blank-state
 trace-recovery words d =
     let x = goes [] words blank-bench blank-state (like-blank (words ++ [])) (subst (λ (y : List ℕ). AllDiffer (nonces y)) (sym (append-nil words)) d) in
-    let r = recovery bench-setup Longer (blank-bench .ring) (blank-bench .fram) blank-ring (trace-events words) (x .0 .0) in
-    let all = r .1 fits in
+    let r = recovery bench-setup this-firmware (blank-bench .ring) (blank-bench .fram) blank-ring (trace-events words) (x .0 .0) in
+    let all = r .1 (subst (λ (f : Firmware). Fits bench-setup f (blank-bench .ring) (blank-bench .fram)) (sym (x .0 .1 .firmware)) fits) in
     record {
       allowed = x .0 .0;
-      form = x .0 .1 .form;
+      firmware = x .0 .1 .firmware;
       ring = x .0 .1 .ring;
       fram = x .0 .1 .fram;
       printed = x .1;

@@ -6,9 +6,9 @@ use mathlib.Core.Option.{some, none}
 use mathlib.Core.List.{List, []}
 use lib.ListN.{replicate}
 use borrow.Author.Tests.{eq-eqb, ne-eqb}
+use Rattle.protocol.specs.Types.{this-firmware}
 use Rattle.octets.specs.Limits.{part-limit, tag-length}
 use Rattle.octets.specs.Octets.{blank, bytes}
-use Rattle.checkpoint.specs.Checkpoint.{Longer}
 use Rattle.protocol.specs.Types as types
 use Rattle.protocol.specs.Operations.{Begin, no-job, first-save, save, power-up}
 use Rattle.jobs.specs.View.{view-job, view-session, view-start, view-started, save-arguments, first-saves, saves}
@@ -24,18 +24,18 @@ starts-as r staging b e = record { answer = ap (λ (y : Begin). y .answer) e; jo
 
 module _ (ring fram staging staging′ nonce secret : List ℕ) (v : ℕ) (n : nonce ≡ nonce-of v) (s : secret ≡ bytes 4 v) where
   pub first-starts : (r : Started)
-      → view-started r staging′ ≡ first-save Longer ring fram (first-saves (save-arguments bench-pages bench-slots bench-key nonce v [] secret staging) (replicate tag-length 0))
-      → Starts r staging′ (first-save Longer ring fram (first-saving v staging))
+      → view-started r staging′ ≡ first-save this-firmware ring fram (first-saves (save-arguments bench-pages bench-slots bench-key nonce v [] secret staging) (replicate tag-length 0))
+      → Starts r staging′ (first-save this-firmware ring fram (first-saving v staging))
   first-starts r e =
-      starts-as r staging′ _ (e ∙ (λ i. first-save Longer ring fram (first-saves (save-arguments bench-pages bench-slots bench-key (n i) v [] (s i) staging) (replicate tag-length 0))))
+      starts-as r staging′ _ (e ∙ (λ i. first-save this-firmware ring fram (first-saves (save-arguments bench-pages bench-slots bench-key (n i) v [] (s i) staging) (replicate tag-length 0))))
 
   pub save-starts : (r : Started) (held : Held) → held .present ≡ true
-      → view-started r staging′ ≡ save Longer ring fram (saves (save-arguments bench-pages bench-slots bench-key nonce v [] secret staging) (held .session))
+      → view-started r staging′ ≡ save this-firmware ring fram (saves (save-arguments bench-pages bench-slots bench-key nonce v [] secret staging) (held .session))
       → Starts r staging′ (save-with ring fram (view-held held) v staging)
   unfolding save-with
   save-starts r held p e =
       starts-as r staging′ _
-      (e ∙ (λ i. save Longer ring fram (saves (save-arguments bench-pages bench-slots bench-key (n i) v [] (s i) staging) (held .session)))
+      (e ∙ (λ i. save this-firmware ring fram (saves (save-arguments bench-pages bench-slots bench-key (n i) v [] (s i) staging) (held .session)))
       ∙ ap (λ (b : Bool). save-with ring fram (cond b (some (view-session (held .session))) none) v staging) (sym p))
 
 -- with no session
@@ -47,25 +47,25 @@ none-starts ring fram staging v r held p e =
     (record { answer = e .0; job = e .1; sealed = refl })
 
 pub power-up-starts : (ring fram staging staging′ state′ nonce : List ℕ) (v : ℕ) (p : PoweredUp) → nonce ≡ nonce-of v
-    → view-powered-up p staging′ state′ ≡ power-up Longer ring fram (powers-up bench-pages bench-slots bench-key nonce staging (replicate part-limit 0))
-    → Starts (record { start = p .start; job = p .job }) staging′ (power-up Longer ring fram (powering-up v staging))
+    → view-powered-up p staging′ state′ ≡ power-up this-firmware ring fram (powers-up bench-pages bench-slots bench-key nonce staging (replicate part-limit 0))
+    → Starts (record { start = p .start; job = p .job }) staging′ (power-up this-firmware ring fram (powering-up v staging))
 power-up-starts ring fram staging staging′ state′ nonce v p n e =
-    let f = e ∙ (λ i. power-up Longer ring fram (powers-up bench-pages bench-slots bench-key (n i) staging (replicate part-limit 0))) in
+    let f = e ∙ (λ i. power-up this-firmware ring fram (powers-up bench-pages bench-slots bench-key (n i) staging (replicate part-limit 0))) in
     record { answer = ap (λ (y : Begin). y .answer) f; job = ap (λ (y : Begin). y .job) f; sealed = ap (λ (y : Begin). y .staging) f }
 
 -- ---- by the word's kind
 
 module _ (ring fram : List ℕ) (held : Held) (w v : ℕ) (staging staging′ : List ℕ) (r : Started) (e : v ≡ value w) where
-  pub starts-first : kind w ≡ 1 → Starts r staging′ (first-save Longer ring fram (first-saving v staging)) → Starts r staging′ (start ring fram (view-held held) w staging)
+  pub starts-first : kind w ≡ 1 → Starts r staging′ (first-save this-firmware ring fram (first-saving v staging)) → Starts r staging′ (start ring fram (view-held held) w staging)
   unfolding start
-  starts-first k s = rw (eq-eqb (kind w) 1 k) (subst (λ (y : ℕ). Starts r staging′ (first-save Longer ring fram (first-saving y staging))) e s)
+  starts-first k s = rw (eq-eqb (kind w) 1 k) (subst (λ (y : ℕ). Starts r staging′ (first-save this-firmware ring fram (first-saving y staging))) e s)
 
   pub starts-save : (kind w ≡ 1 → ⊥) → kind w ≡ 2 → Starts r staging′ (save-with ring fram (view-held held) v staging)
       → Starts r staging′ (start ring fram (view-held held) w staging)
   unfolding start
   starts-save k l s = rw (ne-eqb (kind w) 1 k, eq-eqb (kind w) 2 l) (subst (λ (y : ℕ). Starts r staging′ (save-with ring fram (view-held held) y staging)) e s)
 
-  pub starts-power-up : (kind w ≡ 1 → ⊥) → (kind w ≡ 2 → ⊥) → Starts r staging′ (power-up Longer ring fram (powering-up v staging))
+  pub starts-power-up : (kind w ≡ 1 → ⊥) → (kind w ≡ 2 → ⊥) → Starts r staging′ (power-up this-firmware ring fram (powering-up v staging))
       → Starts r staging′ (start ring fram (view-held held) w staging)
   unfolding start
-  starts-power-up k l s = rw (ne-eqb (kind w) 1 k, ne-eqb (kind w) 2 l) (subst (λ (y : ℕ). Starts r staging′ (power-up Longer ring fram (powering-up y staging))) e s)
+  starts-power-up k l s = rw (ne-eqb (kind w) 1 k, ne-eqb (kind w) 2 l) (subst (λ (y : ℕ). Starts r staging′ (power-up this-firmware ring fram (powering-up y staging))) e s)

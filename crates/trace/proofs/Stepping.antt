@@ -8,9 +8,9 @@ use native.Mathlib.Nat.{add-zero}
 use native.Mathlib.Omega.{arith}
 use lib.ListN.{length, take, drop, replicate, take-append-drop}
 use lib.Seq.{take-at}
+use Rattle.protocol.specs.Types.{this-firmware}
 use Rattle.octets.specs.Octets.{put}
 use Rattle.octets.proofs.Laws.{put-front}
-use Rattle.checkpoint.specs.Checkpoint.{Longer}
 use Rattle.protocol.specs.Types as types
 use Rattle.protocol.specs.Operations.{Moved, no-session, advance}
 use Rattle.protocol.specs.Recovery.{is-going}
@@ -30,7 +30,7 @@ pub store-first : (n : ℕ) (staging : List ℕ) (m : Moved) → stored-on (n - 
 store-first n staging m = let e : n - 0 ≡ n = omega arith in ap (λ (l : ℕ). stored-on l staging m) e
 
 module _ (n k : ℕ) (staging : List ℕ) (m : Moved) where
-  pub store-next : (m′ : Moved) → k < n → is-going (m .progress) ≡ true → m′ ≡ advance Longer (m .ring) (m .fram) (record { sizes = bench-sizes; job = m .job; staging = staging })
+  pub store-next : (m′ : Moved) → k < n → is-going (m .progress) ≡ true → m′ ≡ advance this-firmware (m .ring) (m .fram) (record { sizes = bench-sizes; job = m .job; staging = staging })
       → stored-on (n - k) staging m ≡ stored-on (n - (k + 1)) staging m′
   store-next m′ h g e =
       let f : n - k ≡ suc (n - (k + 1)) = omega arith in

@@ -9,16 +9,16 @@ use mathlib.Core.List.{[]}
 use native.Mathlib.Omega.{arith}
 use lib.ListN.{length}
 use borrow.Author.Tests.{eq-eqb, le-ltb}
-use Rattle.octets.specs.Limits.{nonce-length, packet-limit}
+use Rattle.octets.specs.Limits.{fram-limit, nonce-length, packet-limit}
 use Rattle.octets.specs.Octets.{blank, bytes}
 use Rattle.octets.proofs.Numbers.{length-bytes}
 use Rattle.stops.specs.Stops.{first-of}
 use Rattle.ring.specs.Ring.{read-ring, is-blank, is-unreadable}
 use Rattle.ring.proofs.RingLaws.{read-blank}
 use Rattle.ring.proofs.FoundLaws.{not-blank, not-unreadable}
-use Rattle.checkpoint.specs.Fram.{half-length}
+use Rattle.checkpoint.specs.Fram.{fram-wrong, half-length}
 use Rattle.checkpoint.specs.Checkpoint.{Longer, part-wrong}
-use Rattle.protocol.specs.Types.{Stopped}
+use Rattle.protocol.specs.Types.{Stopped, this-firmware}
 use Rattle.protocol.specs.Operations.{key-wrong, nonce-wrong, staging-wrong, parts-wrong, packet-wrong, begin, no-session, save-stop, save}
 use Rattle.protocol.specs.History.{State}
 use Rattle.protocol.proofs.Facts.{no-fact}
@@ -32,25 +32,29 @@ module _ (s : State) (inv : Holds bench-setup s) (long : length (s .fram) ≡ fr
   lengths-pass : key-wrong (length bench-key) || nonce-wrong (length (nonce-of v)) ≡ false
   lengths-pass = rw (eq-eqb (length (nonce-of v)) nonce-length (length-bytes nonce-length v))
 
-  parts-pass : parts-wrong Longer [] (bytes 4 v) (s .fram) || staging-wrong bench-staging (s .fram) ≡ false
+  parts-pass : parts-wrong this-firmware [] (bytes 4 v) (s .fram) || staging-wrong bench-staging (s .fram) ≡ false
   unfolding parts-wrong part-wrong staging-wrong half-length
   parts-pass = rw (length-bytes 4 v, long)
+
+  fram-passes : fram-wrong fram-limit (s .fram) ≡ false
+  unfolding fram-wrong
+  fram-passes = rw long
 
   packet-passes : packet-wrong Longer v ≡ false
   unfolding packet-wrong
   packet-passes = le-ltb packet-limit v (omega arith)
 
-  stop-blank : blank (s .ring) ≡ true → save-stop Longer (s .ring) (s .fram) (saving v bench-staging no-session) ≡ some 6
+  stop-blank : blank (s .ring) ≡ true → save-stop this-firmware (s .ring) (s .fram) (saving v bench-staging no-session) ≡ some 6
   unfolding save-stop first-of
-  stop-blank b = rw (inv .ring-right, inv .fram-right, lengths-pass, parts-pass, packet-passes, read-blank bench-pages bench-slots (s .ring) (inv .ring-right) b)
+  stop-blank b = rw (inv .ring-right, fram-passes, lengths-pass, parts-pass, packet-passes, read-blank bench-pages bench-slots (s .ring) (inv .ring-right) b)
 
   stop-recorded : is-blank (read-ring (s .ring) bench-pages bench-slots) ≡ false → is-unreadable (read-ring (s .ring) bench-pages bench-slots) ≡ false
-      → save-stop Longer (s .ring) (s .fram) (saving v bench-staging no-session) ≡ some 8
+      → save-stop this-firmware (s .ring) (s .fram) (saving v bench-staging no-session) ≡ some 8
   unfolding save-stop first-of
   stop-recorded b u =
-      rw (inv .ring-right, inv .fram-right, lengths-pass, parts-pass, packet-passes, b, u, no-session-stale (s .ring) bench-sizes (inv .ring-right) b u)
+      rw (inv .ring-right, fram-passes, lengths-pass, parts-pass, packet-passes, b, u, no-session-stale (s .ring) bench-sizes (inv .ring-right) b u)
 
-  answer-is : (x : ℕ) → save-stop Longer (s .ring) (s .fram) (saving v bench-staging no-session) ≡ some x → save Longer (s .ring) (s .fram) (saving v bench-staging no-session) .answer ≡ Stopped x
+  answer-is : (x : ℕ) → save-stop this-firmware (s .ring) (s .fram) (saving v bench-staging no-session) ≡ some x → save this-firmware (s .ring) (s .fram) (saving v bench-staging no-session) .answer ≡ Stopped x
   unfolding save begin
   answer-is x e = rw e
 
@@ -58,10 +62,10 @@ module _ (s : State) (inv : Holds bench-setup s) (long : length (s .fram) ≡ fr
   blank-not e false q = refl
   blank-not e true q = no-fact (sym (ap is-blank (read-blank bench-pages bench-slots (s .ring) (inv .ring-right) q)) ∙ e)
 
-  pub without-session : save Longer (s .ring) (s .fram) (saving v bench-staging no-session) .answer ≡ Stopped (cond (blank (s .ring)) 6 8)
+  pub without-session : save this-firmware (s .ring) (s .fram) (saving v bench-staging no-session) .answer ≡ Stopped (cond (blank (s .ring)) 6 8)
   without-session = go (inv .durable)
     where
-      go : DurableAt bench-setup s (s .ring) (s .fram) (s .journal .owed) → save Longer (s .ring) (s .fram) (saving v bench-staging no-session) .answer ≡ Stopped (cond (blank (s .ring)) 6 8)
+      go : DurableAt bench-setup s (s .ring) (s .fram) (s .journal .owed) → save this-firmware (s .ring) (s .fram) (saving v bench-staging no-session) .answer ≡ Stopped (cond (blank (s .ring)) 6 8)
       go (inl x) = answer-is 6 (stop-blank (x .ring-blank)) ∙ ap (λ (b : Bool). Stopped (cond b 6 8)) (sym (x .ring-blank))
       go (inr (c, r)) =
           let n = reads (inv .fram-right) r in

@@ -6,9 +6,8 @@ use mathlib.Core.Bool.{false, cond}
 use mathlib.Core.Option.{Option, none, some}
 use mathlib.Core.List.{List, [], _∷_, _++_, List·Memᴰ}
 use lib.Dec.{eqb}
-use Rattle.checkpoint.specs.Checkpoint.{Longer}
-use Rattle.protocol.specs.Types.{Session, Start, Begun, Stopped}
-use Rattle.protocol.specs.Calls.{Advances, PowersUp, Setup, Event, first-saved, saved, powered-up, advanced-by, PowerLoss, Updated, lost-in-store}
+use Rattle.protocol.specs.Types.{Session, Start, Begun, Stopped, this-firmware}
+use Rattle.protocol.specs.Calls.{Advances, PowersUp, Setup, Event, first-saved, saved, powered-up, advanced-by, PowerLoss, updated-to, lost-in-store}
 use Rattle.protocol.specs.Operations.{no-session, first-save, save, power-up, advance}
 use Rattle.protocol.specs.History as history
 use Rattle.protocol.specs.History.{State, Handed, fresh, is-stopped, refused, run, Allowed}
@@ -41,7 +40,7 @@ unfoldable pub advances-while : ℕ → State → List Event
 advances-while zero s = []
 advances-while (suc n) s = with-handed (s .handed) (λ h.
     let e = advanced-by (advance-of h) in
-    e ∷ cond (is-going (advance (s .form) (s .ring) (s .fram) (advance-of h) .progress)) (advances-while n (history.step bench-setup s e)) [])
+    e ∷ cond (is-going (advance (s .firmware) (s .ring) (s .fram) (advance-of h) .progress)) (advances-while n (history.step bench-setup s e)) [])
 
 unfoldable pub loss-if : Option ℕ → List Event
 loss-if none = []
@@ -63,12 +62,12 @@ events-of b s (w ∷ more) =
 
 -- what a start answers; it is asked of no other event
 unfoldable pub call-answer : State → Event → Start
-call-answer s (first-saved a) = first-save (s .form) (s .ring) (s .fram) a .answer
-call-answer s (saved a) = save (s .form) (s .ring) (s .fram) a .answer
-call-answer s (powered-up a) = power-up (s .form) (s .ring) (s .fram) a .answer
+call-answer s (first-saved a) = first-save (s .firmware) (s .ring) (s .fram) a .answer
+call-answer s (saved a) = save (s .firmware) (s .ring) (s .fram) a .answer
+call-answer s (powered-up a) = power-up (s .firmware) (s .ring) (s .fram) a .answer
 call-answer s (advanced-by a) = Begun
 call-answer s PowerLoss = Begun
-call-answer s Updated = Begun
+call-answer s (updated-to firmware) = Begun
 call-answer s (lost-in-store left) = Begun
 
 -- of a call that begins, the line of the ring that the operation leaves
@@ -95,7 +94,7 @@ AllDiffer [] = Unit {0}
 AllDiffer (n ∷ more) = (List·Memᴰ n more → ⊥) × AllDiffer more
 
 unfoldable pub blank-state : State
-blank-state = fresh Longer (blank-bench .ring) (blank-bench .fram)
+blank-state = fresh this-firmware (blank-bench .ring) (blank-bench .fram)
 
 abbrev pub trace-events : List ℕ → List Event
 trace-events words = events-of blank-bench blank-state words
@@ -107,7 +106,7 @@ state-after words = run bench-setup blank-state (trace-events words)
 -- the list keeps the rules, leaves the trace's memories and answers its lines, and so the theorem's conclusion holds of them
 pub record Ruled (words : List ℕ) : Type 0 where
   pub allowed : Allowed bench-setup blank-state (trace-events words)
-  pub form : state-after words .form ≡ Longer
+  pub firmware : state-after words .firmware ≡ this-firmware
   pub ring : state-after words .ring ≡ after blank-bench words .ring
   pub fram : state-after words .fram ≡ after blank-bench words .fram
   pub printed : lines blank-bench words ≡ list-lines blank-bench blank-state words

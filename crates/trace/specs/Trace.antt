@@ -9,8 +9,7 @@ use Rattle.octets.specs.Limits.{slot-length, part-limit, key-length, nonce-leng
 use Rattle.octets.specs.Octets.{put, blank, erased, bytes}
 use Rattle.octets.specs.Word.{word-at}
 use Rattle.stops.specs.Stops.{first-of}
-use Rattle.checkpoint.specs.Checkpoint.{Longer}
-use Rattle.protocol.specs.Types.{Session, Progress, GoingOn, Saved, Restored, Refused, Start, Begun, Stopped}
+use Rattle.protocol.specs.Types.{Session, Progress, GoingOn, Saved, Restored, Refused, Start, Begun, Stopped, this-firmware}
 use Rattle.protocol.specs.Calls.{Sizes, sizes, SaveArguments, FirstSave, Saves, PowersUp}
 use Rattle.protocol.specs.Operations.{Begin, Moved, no-job, no-session, first-save, save, power-up, advance}
 use Rattle.protocol.specs.Recovery.{is-going}
@@ -109,14 +108,14 @@ module _ (ring fram : List ℕ) where
   -- with no session a save is refused: 6 on a blank ring, else 8
   unfoldable pub save-with : Option Session → ℕ → List ℕ → Begin
   save-with none v staging = record { answer = Stopped (cond (blank ring) 6 8); job = no-job; secret-length = 0; staging = staging; state = [] }
-  save-with (some z) v staging = save Longer ring fram (saving v staging z)
+  save-with (some z) v staging = save this-firmware ring fram (saving v staging z)
 
   -- the start that a word names
   unfoldable pub start : Option Session → ℕ → List ℕ → Begin
   start session w staging =
-      cond (eqb (kind w) 1) (first-save Longer ring fram (first-saving (value w) staging))
+      cond (eqb (kind w) 1) (first-save this-firmware ring fram (first-saving (value w) staging))
       (cond (eqb (kind w) 2) (save-with session (value w) staging)
-      (power-up Longer ring fram (powering-up (value w) staging)))
+      (power-up this-firmware ring fram (powering-up (value w) staging)))
 
   -- a start before its first store
   unfoldable pub started : Begin → Moved
@@ -126,7 +125,7 @@ module _ (ring fram : List ℕ) where
 unfoldable pub stored-on : ℕ → List ℕ → Moved → Moved
 stored-on zero staging m = m
 stored-on (suc n) staging m =
-    cond (is-going (m .progress)) (stored-on n staging (advance Longer (m .ring) (m .fram) (record { sizes = bench-sizes; job = m .job; staging = staging }))) m
+    cond (is-going (m .progress)) (stored-on n staging (advance this-firmware (m .ring) (m .fram) (record { sizes = bench-sizes; job = m .job; staging = staging }))) m
 
 -- no job has more stores: an erase, the words of a half, the record and an erase
 abbrev pub most-stores : ℕ

@@ -21,8 +21,7 @@ use stops::Stop;
 ghost use mathlib.Core.Path.{_≡_};
 ghost use mathlib.Core.Bool.{cond};
 ghost use Rattle.octets.specs.Octets.{blank};
-ghost use Rattle.checkpoint.specs.Checkpoint.{Longer};
-ghost use Rattle.protocol.specs.Types.{Stopped};
+ghost use Rattle.protocol.specs.Types.{Stopped, this-firmware};
 ghost use Rattle.protocol.specs.Operations.{no-job, first-save, power-up};
 ghost use Rattle.jobs.specs.View.{view-start, view-job};
 ghost use Rattle.trace.specs.Trace.{nonce-of, first-saving, powering-up, save-with, start};
@@ -38,7 +37,7 @@ fn nonce_of(value: u32) -> [u8; 12]
 }
 
 fn start_first_save(value: u32, ring: &[u8], fram: &[u8], staging: &mut [u8]) -> Started
-    ensures { λ r. ⌜ Starts r (now (staging .exit)) (first-save Longer (now (ring .entry)) (now (fram .entry)) (first-saving value (now (staging .entry)))) ⌝ }
+    ensures { λ r. ⌜ Starts r (now (staging .exit)) (first-save this-firmware (now (ring .entry)) (now (fram .entry)) (first-saving value (now (staging .entry)))) ⌝ }
 {
     let key = [0u8; KEY_LENGTH];
     let tag = [0u8; TAG_LENGTH];
@@ -97,7 +96,7 @@ fn start_save(held: Held, value: u32, ring: &[u8], fram: &[u8], staging: &mut [u
 }
 
 fn start_power_up(value: u32, ring: &[u8], fram: &[u8], staging: &mut [u8]) -> Started
-    ensures { λ r. ⌜ Starts r (now (staging .exit)) (power-up Longer (now (ring .entry)) (now (fram .entry)) (powering-up value (now (staging .entry)))) ⌝ }
+    ensures { λ r. ⌜ Starts r (now (staging .exit)) (power-up this-firmware (now (ring .entry)) (now (fram .entry)) (powering-up value (now (staging .entry)))) ⌝ }
 {
     let key = [0u8; KEY_LENGTH];
     let mut state = [0u8; PART_LIMIT];

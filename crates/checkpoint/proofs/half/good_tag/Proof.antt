@@ -5,7 +5,7 @@ use mathlib.Core.List.{List}
 use Prim.Native.Nat.{ℕ, _+_, _-_}
 use native.Mathlib.Omega.{arith}
 use borrow.Author.Needs.{needs}
-use Rattle.octets.specs.Limits.{tag-length}
+use Rattle.octets.specs.Limits.{tag-length, part-limit}
 use Rattle.octets.specs.Octets.{part, same}
 use Rattle.aes.specs.Cipher.{aes}
 use Rattle.gcm.specs.Gcm.{AE-tag, tag}
@@ -30,13 +30,13 @@ compared form key nonce half CIPH b m n stored right r e w x y f g h =
 tag-at-requires : tie.Need-tag-at-requires
 tag-at-requires c κs =
     let start = c .before .before in
-    let f = head-facts (form-of (start .args .half .now)) (start .args .half .now) (start .pre .2) in
+    let f = head-facts part-limit (form-of (start .args .half .now)) (start .args .half .now) (start .pre .2) in
     (start .pre .0, start .pre .1, omega arith, omega (arith, f .open-small, head-small (form-of (start .args .half .now)), f .secret-small, start .pre .3, start .pre .4, start .pre .5), omega (arith, f .fits, start .pre .3, start .pre .4, start .pre .5))
 
 part-requires : tie.Need-part-requires
 part-requires c κs =
     let start = c .before .before .before in
-    omega (arith, head-facts (form-of (start .args .half .now)) (start .args .half .now) (start .pre .2) .fits, start .pre .3, start .pre .4, start .pre .5)
+    omega (arith, head-facts part-limit (form-of (start .args .half .now)) (start .args .half .now) (start .pre .2) .fits, start .pre .3, start .pre .4, start .pre .5)
 
 returns : tie.Need-returns
 returns c key e =
@@ -48,8 +48,8 @@ pub good-tag-spec : {M : Type 1} → statement M
 good-tag-spec =
     tie.close
     (tie.spec
-    (λ c. let start = c .before .before in let f = head-facts (form-of (start .args .half .now)) (start .args .half .now) (start .pre .2) in omega (arith, f .open-small, head-small (form-of (start .args .half .now)), start .pre .3, start .pre .4))
-    (λ c. let start = c .before .before in let f = head-facts (form-of (start .args .half .now)) (start .args .half .now) (start .pre .2) in omega (arith, f .open-small, head-small (form-of (start .args .half .now)), f .secret-small, start .pre .3, start .pre .4, start .pre .5))
+    (λ c. let start = c .before .before in let f = head-facts part-limit (form-of (start .args .half .now)) (start .args .half .now) (start .pre .2) in omega (arith, f .open-small, head-small (form-of (start .args .half .now)), start .pre .3, start .pre .4))
+    (λ c. let start = c .before .before in let f = head-facts part-limit (form-of (start .args .half .now)) (start .args .half .now) (start .pre .2) in omega (arith, f .open-small, head-small (form-of (start .args .half .now)), f .secret-small, start .pre .3, start .pre .4, start .pre .5))
     tag-at-requires
     part-requires
     (λ c. search needs)

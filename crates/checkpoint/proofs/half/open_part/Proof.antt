@@ -1,6 +1,7 @@
 -- `checkpoint::half::open_part` meets its contract. Assumes nothing.
 use mathlib.Core.Path.{_∙_}
 use native.Mathlib.Omega.{arith}
+use Rattle.octets.specs.Limits.{part-limit}
 use Rattle.octets.specs.Octets.{part}
 use Rattle.checkpoint.specs.Half.{form-of, stored-open}
 use Rattle.checkpoint.proofs.StoredLaws.{head-facts}
@@ -8,7 +9,7 @@ use Rattle.checkpoint.proofs.half.open_part.Statement.{statement}
 use Rattle.checkpoint.proofs.half.open_part.Tie as tie
 
 part-requires : tie.Need-part-requires
-part-requires c κs = omega (arith, head-facts (form-of (c .before .args .half .now)) (c .before .args .half .now) (c .before .pre .0) .fits, c .before .pre .1, c .before .pre .2)
+part-requires c κs = omega (arith, head-facts part-limit (form-of (c .before .args .half .now)) (c .before .args .half .now) (c .before .pre .0) .fits, c .before .pre .1, c .before .pre .2)
 
 returns : tie.Need-returns
 unfolding stored-open

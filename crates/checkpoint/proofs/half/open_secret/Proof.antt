@@ -4,6 +4,7 @@ use mathlib.Core.List.{List}
 use Prim.Native.Nat.{ℕ, _+_}
 use native.Mathlib.Omega.{arith}
 use borrow.Author.Needs.{needs}
+use Rattle.octets.specs.Limits.{part-limit}
 use Rattle.octets.specs.Octets.{part, put}
 use Rattle.aes.specs.Cipher.{aes}
 use Rattle.gcm.specs.Gcm.{AE-text, encrypted}
@@ -24,7 +25,7 @@ decrypted form key nonce half CIPH b m n text state out e w x y f g =
 part-requires : tie.Need-part-requires
 part-requires c κs =
     let start = c .before .before .before in
-    omega (arith, head-facts (form-of (start .args .half .now)) (start .args .half .now) (start .pre .4) .fits, start .pre .5, start .pre .6, start .pre .7)
+    omega (arith, head-facts part-limit (form-of (start .args .half .now)) (start .args .half .now) (start .pre .4) .fits, start .pre .5, start .pre .6, start .pre .7)
 
 returns : tie.Need-returns
 returns c key e =
@@ -36,7 +37,7 @@ pub open-secret-spec : {M : Type 1} → statement M
 open-secret-spec =
     tie.close
     (tie.spec
-    (λ c. let start = c .before .before .before in omega (arith, head-facts (form-of (start .args .half .now)) (start .args .half .now) (start .pre .4) .open-small, head-small (form-of (start .args .half .now)), start .pre .5, start .pre .6))
+    (λ c. let start = c .before .before .before in omega (arith, head-facts part-limit (form-of (start .args .half .now)) (start .args .half .now) (start .pre .4) .open-small, head-small (form-of (start .args .half .now)), start .pre .5, start .pre .6))
     part-requires
     (λ c κs. search needs)
     (λ c. search needs)

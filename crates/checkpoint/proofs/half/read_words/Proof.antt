@@ -36,7 +36,7 @@ module _ (form : Form) (half : List ℕ) (front : Bool) (s k₁ k₂ k₃ v₁ v
     (a : k₁ ≡ kind-at half (open-word form)) (b : k₂ ≡ kind-at half (secret-word form)) (c : k₃ ≡ kind-at half (restarts-word form))
     (x : v₁ ≡ value-at half (open-word form)) (y : v₂ ≡ value-at half (secret-word form)) (z : v₃ ≡ value-at half (restarts-word form)) where
   good : front && eqb k₁ 1 && eqb k₂ 2 && eqb k₃ 3 && leb (4 * v₁) part-limit && leb (4 * v₂) part-limit && leb v₃ restart-limit
-      && leb (s + tag-length + 4 * v₁ + 4 * v₂) (length half) ≡ good-head form half
+      && leb (s + tag-length + 4 * v₁ + 4 * v₂) (length half) ≡ good-head part-limit form half
   unfolding good-head open-length secret-length stored-restarts stored-length
   good =
       (λ i. f i && eqb (a i) 1 && eqb (b i) 2 && eqb (c i) 3 && leb (4 * x i) part-limit && leb (4 * y i) part-limit && leb (z i) restart-limit

@@ -41,7 +41,7 @@ use denote.Triple.Table.{entered, cited}
 use denote.Triple.Walked.{says, Stays, stay-ref, stay-dropped, gave-slice, walkOf, AllGo, goes-ref, goes-dropped, goes-gave-slice, Walks, ends-at, walked, walk-meets}
 use denote.Exit.{yes}
 use denote.Signature.{Slot, plain, shrSliceOf}
-use Rattle.checkpoint.specs.Checkpoint.{Longer}
+use Rattle.protocol.specs.Types.{this-firmware}
 use Rattle.protocol.specs.Operations.{advance}
 use Rattle.jobs.specs.View.{view-advanced, advances}
 use Rattle.jobs.specs.declared.types.Job.{Job}
@@ -138,7 +138,7 @@ module _ {M : Type 1} (𝓤 : URA M) (H : Heap 𝓤) (A : Atoms 𝓤) (W : Given
 
   -- what `advance` ensures of its answer and of the memories' last lists, which is what `advance_lent` ensures
   abbrev Ensured : Advanced → List ℕ → List ℕ → Type 0
-  Ensured r ys zs = view-advanced r ys zs ≡ advance Longer (ring .now) (fram .now) (advances pages slots h (staging .now))
+  Ensured r ys zs = view-advanced r ys zs ≡ advance this-firmware (ring .now) (fram .now) (advances pages slots h (staging .now))
 
   -- what whoever holds an answer knows of its parts
   job-is : (r : Advanced) (w : Val) → Is D.the-row r (w ∷ []) → Is R (r .job) (job-val (r .job) ∷ [])

@@ -2,8 +2,8 @@
 use mathlib.Core.Path.{_≡_, sym, ap, _∙_}
 use mathlib.Core.Option.{none}
 use borrow.Author.Needs.{needs}
+use Rattle.protocol.specs.Types.{this-firmware}
 use Rattle.stops.specs.View.{check-number}
-use Rattle.checkpoint.specs.Checkpoint.{Longer}
 use Rattle.protocol.specs.Calls.{FirstSave}
 use Rattle.protocol.specs.Operations.{first-save-stop}
 use Rattle.jobs.specs.View.{save-arguments, first-saves}
@@ -20,7 +20,7 @@ call c =
     first-saves (save-arguments (a .pages) (a .slots) (a .key .now) (a .nonce .now) (a .packet) (a .«open» .now) (a .secret .now) (a .staging .now)) (a .starting-tag .now)
 
 passed : (c : tie.After-enum-told) → let checked = c .before .before in
-    first-save-stop Longer (start checked .args .ring .now) (start checked .args .fram .now) (call checked) ≡ none
+    first-save-stop this-firmware (start checked .args .ring .now) (start checked .args .fram .now) (call checked) ≡ none
 passed c = sym (c .before .before .first-save-check .ensures) ∙ ap check-number (c .enum-told .given .1)
 
 begin-save-requires : tie.Need-begin-save-requires

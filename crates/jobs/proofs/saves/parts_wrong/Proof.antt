@@ -7,6 +7,8 @@ use native.Mathlib.Omega.{arith}
 use lib.Dec.{ltb}
 use lib.ListN.{length}
 use borrow.Author.Needs.{needs}
+use Rattle.protocol.specs.Types.{this-firmware}
+use Rattle.octets.specs.Limits.{part-limit}
 use Rattle.stops.proofs.Laws.{neither}
 use Rattle.checkpoint.specs.Checkpoint.{Longer, part-wrong, sealed-length}
 use Rattle.checkpoint.specs.Fram.{half-length}
@@ -15,17 +17,17 @@ use Rattle.jobs.proofs.SaveLaws.{small}
 use Rattle.jobs.proofs.saves.parts_wrong.Statement.{statement}
 use Rattle.jobs.proofs.saves.parts_wrong.Tie as tie
 
-wrong : (open-part secret fram : List ℕ) (x y : Bool) → x ≡ part-wrong open-part → y ≡ part-wrong secret → x || y ≡ true → true ≡ parts-wrong Longer open-part secret fram
+wrong : (open-part secret fram : List ℕ) (x y : Bool) → x ≡ part-wrong part-limit open-part → y ≡ part-wrong part-limit secret → x || y ≡ true → true ≡ parts-wrong this-firmware open-part secret fram
 unfolding parts-wrong
 wrong open-part secret fram x y e f t =
-    let both : part-wrong open-part || part-wrong secret ≡ true = sym (λ i. e i || f i) ∙ t in
+    let both : part-wrong part-limit open-part || part-wrong part-limit secret ≡ true = sym (λ i. e i || f i) ∙ t in
     sym (ap (λ (b : Bool). b || ltb (half-length fram) (sealed-length Longer (length open-part) (length secret))) both)
 
-right : (open-part secret fram : List ℕ) (x y : Bool) → x ≡ part-wrong open-part → y ≡ part-wrong secret → x || y ≡ false
-    → ltb (half-length fram) (sealed-length Longer (length open-part) (length secret)) ≡ parts-wrong Longer open-part secret fram
+right : (open-part secret fram : List ℕ) (x y : Bool) → x ≡ part-wrong part-limit open-part → y ≡ part-wrong part-limit secret → x || y ≡ false
+    → ltb (half-length fram) (sealed-length Longer (length open-part) (length secret)) ≡ parts-wrong this-firmware open-part secret fram
 unfolding parts-wrong
 right open-part secret fram x y e f t =
-    let both : part-wrong open-part || part-wrong secret ≡ false = sym (λ i. e i || f i) ∙ t in
+    let both : part-wrong part-limit open-part || part-wrong part-limit secret ≡ false = sym (λ i. e i || f i) ∙ t in
     sym (ap (λ (b : Bool). b || ltb (half-length fram) (sealed-length Longer (length open-part) (length secret))) both)
 
 returns : tie.Need-returns

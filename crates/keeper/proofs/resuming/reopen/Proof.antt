@@ -1,6 +1,7 @@
 -- `keeper::resuming::reopen` meets its contract. Assumes nothing.
 use native.Mathlib.Omega.{arith}
 use borrow.Author.Needs.{needs}
+use Rattle.octets.specs.Limits.{part-limit}
 use Rattle.checkpoint.specs.Half.{form-of}
 use Rattle.checkpoint.proofs.StoredLaws.{GoodHead, head-facts, stored-packet-small, packet-small}
 use Rattle.checkpoint.proofs.SealedLaws.{head-small}
@@ -8,8 +9,8 @@ use Rattle.keeper.proofs.ResumeLaws.{reseals, longer-fits}
 use Rattle.keeper.proofs.resuming.reopen.Statement.{statement}
 use Rattle.keeper.proofs.resuming.reopen.Tie as tie
 
-facts : (start : tie.Start) → GoodHead (form-of (start .args .half .now)) (start .args .half .now)
-facts start = head-facts (form-of (start .args .half .now)) (start .args .half .now) (start .pre .3)
+facts : (start : tie.Start) → GoodHead part-limit (form-of (start .args .half .now)) (start .args .half .now)
+facts start = head-facts part-limit (form-of (start .args .half .now)) (start .args .half .now) (start .pre .3)
 
 open-secret-requires : tie.Need-open-secret-requires
 open-secret-requires c κs =

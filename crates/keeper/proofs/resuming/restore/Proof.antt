@@ -2,6 +2,7 @@
 use mathlib.Core.Path.{sym, ap, _∙_}
 use native.Mathlib.Omega.{arith}
 use borrow.Author.Needs.{needs}
+use Rattle.octets.specs.Limits.{part-limit}
 use Rattle.stops.specs.View.{check-number}
 use Rattle.checkpoint.specs.Half.{form-of}
 use Rattle.checkpoint.proofs.StoredLaws.{head-facts}
@@ -11,18 +12,18 @@ use Rattle.keeper.proofs.resuming.restore.Statement.{statement}
 use Rattle.keeper.proofs.resuming.restore.Tie as tie
 
 add-t23 : tie.Need-add-t23
-add-t23 c = let s = c .before .before .before .before .before .before .before .before .before .before .before .before .before .before .before .before .before in omega (arith, s .pre .4 .open-part, head-facts (form-of (s .args .half .now)) (s .args .half .now) (s .pre .3) .open-small)
+add-t23 c = let s = c .before .before .before .before .before .before .before .before .before .before .before .before .before .before .before .before .before in omega (arith, s .pre .4 .open-part, head-facts part-limit (form-of (s .args .half .now)) (s .args .half .now) (s .pre .3) .open-small)
 
 add-t24 : tie.Need-add-t24
 add-t24 c =
     let s = c .before .before .before .before .before .before .before .before .before .before .before .before .before .before .before .before .before .before in
-    let f = head-facts (form-of (s .args .half .now)) (s .args .half .now) (s .pre .3) in
+    let f = head-facts part-limit (form-of (s .args .half .now)) (s .args .half .now) (s .pre .3) in
     omega (arith, s .pre .4 .open-part, s .pre .4 .secret, f .open-small, f .secret-small)
 
 add-t26 : tie.Need-add-t26
 add-t26 c =
     let s = c .before .before .before .before .before .before .before .before .before .before .before .before .before .before .before .before .before .before .before .before in
-    omega (arith, s .pre .4 .restarts, head-facts (form-of (s .args .half .now)) (s .args .half .now) (s .pre .3) .restarts-small)
+    omega (arith, s .pre .4 .restarts, head-facts part-limit (form-of (s .args .half .now)) (s .args .half .now) (s .pre .3) .restarts-small)
 
 returns : tie.Need-returns
 returns c =

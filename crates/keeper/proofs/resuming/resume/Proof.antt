@@ -6,7 +6,7 @@ use Prim.Native.Nat.{ℕ, _-_, _≤_}
 use native.Mathlib.Omega.{arith}
 use lib.ListN.{take}
 use borrow.Author.Needs.{needs}
-use Rattle.octets.specs.Limits.{nonce-length}
+use Rattle.octets.specs.Limits.{nonce-length, part-limit}
 use Rattle.octets.specs.Octets.{part}
 use Rattle.stops.specs.Stops.{first-of}
 use Rattle.ring.specs.Ring.{Newest, read-ring, newest-record, half-named, target-page, target-slot}
@@ -88,7 +88,7 @@ returns c =
     let a = s .args in
     let read = c .before .before .before .before .before .before .before .before .before .before .before .before .read-head .ensures in
     let half = half-is (c .before .before .before .before .before .before .before .before .before .before .before .before .before) in
-    let good = sym (ap (λ (h : List ℕ). good-head (form-of h) h) half) ∙ sym (read .0) ∙ c .before .before .before .before .before .before .before .before .before .before .before .if1 .taken in
+    let good = sym (ap (λ (h : List ℕ). good-head part-limit (form-of h) h) half) ∙ sym (read .0) ∙ c .before .before .before .before .before .before .before .before .before .before .before .if1 .taken in
     power-up-restores (a .ring .now) (a .fram .now) (call found) _ _ _ _ _ _ _
     (c .before .before .before .before .before .before .before .before .before .before .part .ensures .0 ∙ ap (take nonce-length) (record-is found)) half
     (c .before .before .before .before .before .before .before .before .before .first-phase .ensures ∙ ap first-phase (s .pre .1)) (ap (λ (h : ℕ). 1 - h) (number-is (c .before .before .before .before .before .before .before .before .before .before .before .before .before .before)))
@@ -101,7 +101,7 @@ returns-2 c =
     let s = start found in
     let a = s .args in
     let read = c .before .before .read-head .ensures in
-    let bad = sym (ap (λ (h : List ℕ). good-head (form-of h) h) (half-is (c .before .before .before))) ∙ sym (read .0) ∙ c .before .if1 .left in
+    let bad = sym (ap (λ (h : List ℕ). good-head part-limit (form-of h) h) (half-is (c .before .before .before))) ∙ sym (read .0) ∙ c .before .if1 .left in
     power-up-stops (a .ring .now) (a .fram .now) (call found) _ (c .not-resumed .ensures (a .staging .now) (a .state .now))
     (head-stop (a .ring .now) (a .fram .now) (call found) (s .pre .0) (passed found) bad)
 

@@ -1,8 +1,7 @@
 -- `keeper_c::starts::keeper_save` meets its contract. Assumes nothing.
 use mathlib.Core.Path.{ap, _∙_}
 use borrow.Author.Needs.{needs}
-use Rattle.checkpoint.specs.Checkpoint.{Longer}
-use Rattle.protocol.specs.Types.{Session}
+use Rattle.protocol.specs.Types.{Session, this-firmware}
 use Rattle.protocol.specs.Operations.{save-stop, save}
 use Rattle.jobs.specs.View.{view-start, save-arguments}
 use Rattle.keeper_c.specs.Calls.{saves-in}
@@ -16,7 +15,7 @@ returns c =
     let given = c .before .before .before .before .session-in .ensures in
     let arguments = (save-arguments (a .pages) (a .slots) (a .key .now) (a .nonce .now) (a .packet) (a .open-part .now) (a .secret .now) (a .staging .now)) in
     save-bad (a .ring .now) (a .fram .now) (a .job .now) (saves-in arguments (a .session .now)) (c .before .before .before .if1 .taken) _ _
-    (c .before .save-check .ensures ∙ ap (λ (s : Session). save-stop Longer (a .ring .now) (a .fram .now) record { arguments = arguments; session = s }) given) (c .stopped .ensures)
+    (c .before .save-check .ensures ∙ ap (λ (s : Session). save-stop this-firmware (a .ring .now) (a .fram .now) record { arguments = arguments; session = s }) given) (c .stopped .ensures)
 
 returns-2 : tie.Need-returns-2
 returns-2 c =
@@ -25,7 +24,7 @@ returns-2 c =
     let arguments = (save-arguments (a .pages) (a .slots) (a .key .now) (a .nonce .now) (a .packet) (a .open-part .now) (a .secret .now) (a .staging .now)) in
     let put = c .before .before .put-started .ensures in
     save-good (a .ring .now) (a .fram .now) (a .job .now) (c .before .before .before .before .before .before .before .before .if1 .left) _ _ _ (saves-in arguments (a .session .now))
-    (c .before .before .before .before .before .before .save .ensures ∙ ap (λ (s : Session). save Longer (a .ring .now) (a .fram .now) record { arguments = arguments; session = s }) given) (put .0) (put .1) (no-length (view-start (c .before .before .before .before .before .before .save .result .start)))
+    (c .before .before .before .before .before .before .save .ensures ∙ ap (λ (s : Session). save this-firmware (a .ring .now) (a .fram .now) record { arguments = arguments; session = s }) given) (put .0) (put .1) (no-length (view-start (c .before .before .before .before .before .before .save .result .start)))
 
 pub keeper-save-spec : {M : Type 1} → statement M
 keeper-save-spec =

@@ -6,7 +6,7 @@ use Prim.Native.Nat.{ℕ, _+_, _*_, _≤_}
 use native.Mathlib.Omega.{arith}
 use lib.ListN.{length}
 use borrow.Author.Needs.{needs}
-use Rattle.octets.specs.Limits.{nonce-length}
+use Rattle.octets.specs.Limits.{nonce-length, fram-limit}
 use Rattle.octets.specs.Octets.{part}
 use Rattle.stops.specs.Stops.{first-of}
 use Rattle.stops.specs.View.{check-number}
@@ -14,7 +14,7 @@ use Rattle.ring.specs.Ring.{half-named}
 use Rattle.checkpoint.specs.Checkpoint.{head-length}
 use Rattle.checkpoint.specs.Fram.{half-at, half-length}
 use Rattle.checkpoint.specs.Half.{form-of, open-length, stored-restarts}
-use Rattle.checkpoint.proofs.FramLaws.{fram-sizes, half-within}
+use Rattle.checkpoint.proofs.FramLaws.{an-image, half-within}
 use Rattle.checkpoint.proofs.SealedLaws.{head-small}
 use Rattle.protocol.specs.Operations.{look-by, stretch-by}
 use Rattle.look.specs.declared.types.Looked.the-variants.{Restarts}
@@ -50,13 +50,13 @@ half-check c =
 within : (c : tie.After-half-named) → let fram = c .before .before .before .before .args .fram .now in c .half-named .result * half-length fram + half-length fram ≤ length fram
 within c =
     let s = c .before .before .before .before in
-    half-within (s .args .fram .now) (c .half-named .result) (s .pre .0) (omega (arith, c .half-named .ensures, s .pre .3))
+    half-within (s .args .fram .now) (c .half-named .result) (an-image fram-limit (s .args .fram .now) (s .pre .0)) (omega (arith, c .half-named .ensures, s .pre .3))
 
 read-head-requires : tie.Need-read-head-requires
 unfolding half-length
 read-head-requires c κs =
     let start = c .before .before .before .before .before in
-    let z = fram-sizes (start .args .fram .now) (start .pre .0) in
+    let z = an-image fram-limit (start .args .fram .now) (start .pre .0) in
     omega (arith, c .half-at .ensures .1)
 
 mul-t14 : tie.Need-mul-t14
@@ -69,7 +69,7 @@ add-t15 c =
     let found = c .before .before .before .before .before .before .before in
     let start = found .before .before .before .before in
     let w = within found in
-    let z = fram-sizes (start .args .fram .now) (start .pre .0) in
+    let z = an-image fram-limit (start .args .fram .now) (start .pre .0) in
     omega (arith, c .before .before .before .before .before .read-head .ensures .1, head-small (form-of (c .before .before .before .before .before .before .half-at .result .now)))
 
 returns : tie.Need-returns
