@@ -26,7 +26,7 @@ abbrev pub fram-least : ℕ
 fram-least = 88
 
 abbrev pub fram-limit : ℕ
-fram-limit = 131072
+fram-limit = 262144
 
 -- its length is a multiple of this
 abbrev pub fram-step : ℕ
@@ -35,7 +35,7 @@ fram-step = 8
 -- ---- a checkpoint
 -- each part's limit, and the least length of a state buffer
 abbrev pub part-limit : ℕ
-part-limit = 4096
+part-limit = 32768
 
 abbrev pub restart-limit : ℕ
 restart-limit = 8

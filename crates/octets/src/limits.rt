@@ -14,12 +14,12 @@ pub const SLOT_LENGTH: usize = 16;
 // The FRAM; its length is a multiple of FRAM_STEP.
 pub const FRAM_LEAST: usize = 88;
 
-pub const FRAM_LIMIT: usize = 131_072;
+pub const FRAM_LIMIT: usize = 262_144;
 
 pub const FRAM_STEP: usize = 8;
 
 // A checkpoint: each part's limit is also the least length of a state buffer.
-pub const PART_LIMIT: usize = 4096;
+pub const PART_LIMIT: usize = 32_768;
 
 pub const RESTART_LIMIT: usize = 8;
 
