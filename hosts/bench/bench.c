@@ -34,10 +34,15 @@ static void need(int ok, const char *what)
 
 /* ---- the implementations */
 
-uint8_t key[32], nonce[12], aad[4128], text[4096], sealed[4096], opened[4096], tag[16];
+uint8_t key[32], nonce[12], aad[LARGEST_AAD], text[LARGEST_PART], sealed[LARGEST_PART], opened[LARGEST_PART], tag[16];
 
 static const struct size sizes[] = {
-    {"64", 64, 0}, {"1,024", 1024, 0}, {"4,096", 4096, 0}, {"4,096 + 1,056", 4096, 1056}, {"4,096 + 4,128", 4096, 4128},
+    {"64", 64, 0},
+    {"1,024", 1024, 0},
+    {"4,096", 4096, 0},
+    {"4,096 + 1,056", 4096, 1056},
+    {"32,768", LARGEST_PART, 0},
+    {"32,768 + 32,800", LARGEST_PART, LARGEST_AAD},
 };
 
 enum { TARGET_SIZE = 3 };
@@ -162,7 +167,7 @@ enum { OURS = 0, CT64 = 2, BIG32 = 3, FAST_CT64 = 9, FAST_BIG32 = 10 };
 /* All must give the bytes that the first gives, open them, and refuse them if a bit of the tag is changed. */
 static void compare(const struct size *s)
 {
-    uint8_t first[4096], first_tag[16];
+    static uint8_t first[LARGEST_PART], first_tag[16];
     for (size_t i = 0; i < COUNT(all); i++) {
         const struct implementation *m = &all[i];
         memset(sealed, 0, sizeof sealed);
@@ -337,7 +342,7 @@ static void compare_hex(void)
 
 /* ---- a unit, whose ring's newest page is full, and its calls */
 
-static uint8_t ring[16 * 32 * 512], kept_ring[sizeof ring], fram[96 + 4 * 4096], kept_fram[sizeof fram];
+static uint8_t ring[16 * 32 * 512], kept_ring[sizeof ring], fram[96 + 4 * LARGEST_PART], kept_fram[sizeof fram];
 static uint8_t staging[sizeof fram / 2], state[KEEPER_STATE_SIZE], job[KEEPER_JOB_SIZE], fresh[12];
 static uint8_t session[KEEPER_SESSION_SIZE], kept_session[sizeof session];
 static size_t pages, slots, ring_len, fram_len, part, secret_len, open_start, open_len;
@@ -415,12 +420,16 @@ static void restore(void)
     memcpy(session, kept_session, sizeof session);
 }
 
+/* The checkpoint of the page's last record has parts of n bytes; those before it are not read any more, and have none. */
 static void fill_page(size_t p, size_t s, size_t n)
 {
     blank(p, s, n);
+    part = 0;
     need(first_save() == 0 && finish() == KEEPER_SAVED, "a first save stopped");
-    for (size_t i = 1; i < s; i++)
+    for (size_t i = 1; i < s; i++) {
+        part = i == s - 1 ? n : 0;
         need(save() == 0 && finish() == KEEPER_SAVED, "a save stopped");
+    }
     keep();
 }
 
@@ -514,8 +523,8 @@ static void time_ciphers(int round)
         }
 }
 
-static const size_t shapes[][2] = {{3, 2}, {8, 64}, {32, 512}}, parts[] = {0, 64, 1024, 4096};
-static const char *const part_names[] = {"0", "64", "1,024", "4,096"};
+static const size_t shapes[][2] = {{3, 2}, {8, 64}, {32, 512}}, parts[] = {0, 64, 1024, 4096, LARGEST_PART};
+static const char *const part_names[] = {"0", "64", "1,024", "4,096", "32,768"};
 
 enum { SAVE_START, SAVE, POWER_UP_START, POWER_UP, CALLS };
 
@@ -695,11 +704,11 @@ static void measure_job(uint32_t (*start)(void), uint32_t last)
     need(answer == last, "an advance stopped");
 }
 
-/* Parts of 4,096 bytes, and every phase of a job: the save erases after its record; a second one does not get to its erasing, so that
+/* The largest parts, and every phase of a job: the save erases after its record; a second one does not get to its erasing, so that
    the power-up erases first. */
 static void measure_stack(void)
 {
-    fill_page(3, 2, 4096);
+    fill_page(3, 2, LARGEST_PART);
     compare(&sizes[COUNT(sizes) - 1]);
     need(measured(seal_largest) == 0 && measured(open_largest) == 0 && measured(wipe) == 0 && measured(look) == 0, "a call stopped");
     need(measured(export_largest) == 0 && measured(import_largest) == 0, "an export or import stopped");
@@ -710,7 +719,7 @@ static void measure_stack(void)
         need(advance() == KEEPER_GOING_ON, "an advance stopped");
     need(power_up() == 0 && job[3] == ERASE_FIRST, "no page was pending");
     measure_job(power_up, KEEPER_RESTORED);
-    blank(3, 2, 4096);
+    blank(3, 2, LARGEST_PART);
     measure_job(first_save, KEEPER_SAVED);
 }
 
@@ -819,7 +828,7 @@ static void print_hex(void)
 static void print_depths(void)
 {
     out("\n## Stack\n\n"
-        "Bytes that a call writes below its caller's frame, arguments and callees included, at parts of 4,096 bytes and in every phase of a\n"
+        "Bytes that a call writes below its caller's frame, arguments and callees included, at parts of 32,768 bytes and in every phase of a\n"
         "job, or with an image of 262,144. Measured on a painted stack, not proved.\n\n| call | bytes |\n");
     columns(1);
     for (size_t i = 0; i < COUNT(depths); i++)
@@ -954,7 +963,7 @@ int main(int argc, char **argv)
         "which all take turns on one core, each for a millisecond, after a few calls to warm up; a turn in which another process got the\n"
         "core is taken again. In each round, before the clock starts, all must give the same bytes, open them, and refuse them with one bit\n"
         "of the tag changed.\n\n"
-        "1,056 bytes of associated data are the head and an open part of 1,024 bytes; 4,128 are those of the largest checkpoint.\n\n"
+        "1,056 bytes of associated data are the head and an open part of 1,024 bytes; 32,800 are those of the largest checkpoint.\n\n"
         "What is not alike:\n\n"
         "- **Tables and time.** Godwitshelf, BearSSL small and big, and mbedTLS with its hardware masked look up AES tables at places that\n"
         "  depend on key and data. BearSSL ct64 does not, by design, and pays for it.\n"

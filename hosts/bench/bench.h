@@ -8,8 +8,11 @@ struct size {
     size_t text, aad;
 };
 
+/* The largest part of a checkpoint, and the associated data of the largest checkpoint: its head and open part. */
+enum { LARGEST_PART = 32768, LARGEST_AAD = 32 + LARGEST_PART };
+
 /* Sealing turns text into sealed and tag, opening turns sealed into opened if the tag is right. */
-extern uint8_t key[32], nonce[12], aad[4128], text[4096], sealed[4096], opened[4096], tag[16];
+extern uint8_t key[32], nonce[12], aad[LARGEST_AAD], text[LARGEST_PART], sealed[LARGEST_PART], opened[LARGEST_PART], tag[16];
 
 /* The pieces of bearssl.c, with BearSSL as Debian compiles it, and as run.sh does. */
 void bear_small(void), bear_ct64(void), bear_big32(void), bear_big64(void), bear_seal(const struct size *);

@@ -19,7 +19,7 @@
  *
  * The memories
  * `ring` is the nonce ring in flash: pages x slots x 16 bytes, pages 3 to 32, slots 2 to 512; a page is what one erase of the chip clears.
- * `fram` is the FRAM: 88 to 131,072 bytes, a multiple of 8, in two halves. Only keeper_advance writes to them, one store for each call:
+ * `fram` is the FRAM: 88 to 262,144 bytes, a multiple of 8, in two halves. Only keeper_advance writes to them, one store for each call:
  *     phase 1 or 4   the page in bytes 4..8 of the job, set to 0xFF
  *     phase 2        4 bytes of the FRAM at half x fram_len / 2 + 4 x (the word in bytes 4..8 of the job)
  *     phase 3        the record, 16 bytes of the ring at 16 x (target page x slots + target slot)
@@ -30,7 +30,8 @@
  * program its 16 bytes as one.
  * Every pages x slots saves and power-ups erase each page once.
  * A checkpoint is 48 bytes and both parts, so that a FRAM of 88 bytes holds none. Checkpoints of the older form, of 44 bytes and both parts
- * and without a packet number, are still read; a power-up seals them anew in the longer form.
+ * and without a packet number, are still read; a power-up seals them anew in the longer form. Firmware that takes parts of up to 4,096 bytes
+ * only refuses a checkpoint with a larger one by 11.
  *
  * Restarts and packet numbers
  * A power-up's checkpoint has one restart more than the one it resumes; at 8 the next power-up stops. A save brings the number of the packet
@@ -61,7 +62,7 @@ enum keeper_answer {
     KEEPER_RING_SIZE = 1,           /* pages, slots or the ring's length wrong */
     KEEPER_FRAM_SIZE = 2,           /* the length of the FRAM, or of an image to export or import, wrong */
     KEEPER_KEY_NONCE_TAG_SIZE = 3,  /* key not 32, nonce not 12 or tag not 16 bytes */
-    KEEPER_BUFFER_SIZE = 4,         /* a part not a multiple of 4 bytes, above 4,096, or the checkpoint longer than a half; staging, state,
+    KEEPER_BUFFER_SIZE = 4,         /* a part not a multiple of 4 bytes, above 32,768, or the checkpoint longer than a half; staging, state,
                                        output or a text buffer too short; a session buffer to be written not 48 bytes; text or associated data
                                        above 65,536; power-up, after 13: a checkpoint of the older form does not fit its half in the
                                        longer one */
@@ -94,7 +95,7 @@ enum keeper_size {
     KEEPER_NONCE_SIZE = 12,
     KEEPER_TAG_SIZE = 16,
     KEEPER_SLOT_SIZE = 16,
-    KEEPER_STATE_SIZE = 4096,       /* the least state buffer */
+    KEEPER_STATE_SIZE = 32768,      /* the least state buffer */
     KEEPER_JOB_SIZE = 64,
     KEEPER_SESSION_SIZE = 48
 };
@@ -133,7 +134,7 @@ uint32_t keeper_open(const uint8_t *key, size_t key_len, const uint8_t *nonce, s
 /* The unit's first checkpoint, on a blank ring: seals both parts into staging, with restarts 0 and `starting_tag`, 16 random bytes, as the
  * previous tag, and writes the job that stores it. Nothing is recorded until keeper_advance has made the record.
  * `packet` is the number of the packet last heard, 0 to KEEPER_LARGEST_PACKET; 0 where none was.
- * Parts: multiples of 4 bytes, 0 to 4,096 each; 48 bytes and both parts must fit half the FRAM. Staging: at least half the FRAM; its bytes
+ * Parts: multiples of 4 bytes, 0 to 32,768 each; 48 bytes and both parts must fit half the FRAM. Staging: at least half the FRAM; its bytes
  * after the checkpoint keep their contents.
  * Stops: 1 to 4, 18, 5, 14 (the job buffer is not 64 bytes). Cost: one pass over the ring, one sealing.
  */
@@ -154,7 +155,7 @@ uint32_t keeper_save(size_t pages, size_t slots, const uint8_t *ring, size_t rin
                      uint32_t packet, const uint8_t *open_part, size_t open_len, const uint8_t *secret, size_t secret_len,
                      uint8_t *staging, size_t staging_len, uint8_t *job, size_t job_len);
 
-/* After every restart: opens the newest checkpoint, puts its secret part at the front of `state` (at least 4,096 bytes; those after it keep
+/* After every restart: opens the newest checkpoint, puts its secret part at the front of `state` (at least 32,768 bytes; those after it keep
  * their contents) and its length into *secret_len, seals both parts anew, with one restart more and the same packet number, into staging, and
  * writes the job that stores it. `state` then holds plaintext; it may be used once keeper_advance has answered KEEPER_RESTORED, and is the
  * caller's to wipe. A checkpoint of the older form has packet number 0 and is sealed anew in the longer form, 4 bytes longer; where that does

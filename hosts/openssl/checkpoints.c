@@ -4,7 +4,7 @@
  *
  *     cc -o checkpoints checkpoints.c -lcrypto
  *     ./checkpoints         document 02's form, as text: the first part of the file crates/checkpoint_values/stdout; what comes behind it
- *                           is the stops of documents 01 and 02, written by hand
+ *                           is the stops of documents 01 and 02, written by hand. Of the largest checkpoints head and end are printed
  *     ./checkpoints older   a checkpoint of document 01's form, as bytes: the file crates/checkpoint_values/stdin
  *
  * (Debian: libssl-dev).
@@ -16,7 +16,13 @@
 
 enum form { OLDER, LONGER };
 
-static unsigned char c[48 + 2 * 4096];
+enum {
+    LARGEST_PART = 32768,
+    WHOLE = 10000, /* checkpoints up to this length are printed whole; of longer ones the head, two dots and the last LAST bytes */
+    LAST = 64
+};
+
+static unsigned char c[48 + 2 * LARGEST_PART];
 
 static void need(int ok)
 {
@@ -36,7 +42,7 @@ static void word(unsigned char *at, unsigned kind, unsigned value)
 /* Seals a checkpoint into c and answers its length. The older form has no packet number. */
 static int seal(enum form form, unsigned packet, int open, int secret, unsigned restarts)
 {
-    static unsigned char plain[4096];
+    static unsigned char plain[LARGEST_PART];
     unsigned char key[32], nonce[12];
     int at = form == LONGER ? 4 : 0, start = at + 28, n;
     for (int i = 0; i < 32; i++)
@@ -65,12 +71,23 @@ static int seal(enum form form, unsigned packet, int open, int secret, unsigned 
     return start + open + secret + 16;
 }
 
+static void bytes(int from, int to)
+{
+    for (int i = from; i < to; i++)
+        printf("%02x", c[i]);
+}
+
 static void show(int half, unsigned packet, int open, int secret, unsigned restarts)
 {
     int n = seal(LONGER, packet, open, secret, restarts);
     printf("half %c packet %u open %d secret %d restarts %u\n", "AB"[half], packet, open, secret, restarts);
-    for (int i = 0; i < n; i++)
-        printf("%02x", c[i]);
+    if (n <= WHOLE) {
+        bytes(0, n);
+    } else {
+        bytes(0, 32);
+        fputs(" .. ", stdout);
+        bytes(n - LAST, n);
+    }
     putchar('\n');
 }
 
@@ -89,5 +106,7 @@ int main(int argc, char **argv)
     show(1, 1073741823, 20, 36, 4);
     show(0, 16777216, 4096, 4096, 5);
     show(1, 305419896, 4096, 4096, 6);
+    show(0, 2, LARGEST_PART, LARGEST_PART, 7);
+    show(1, 3, LARGEST_PART, LARGEST_PART, 8);
     return 0;
 }

@@ -1,5 +1,5 @@
-// Prints sealed checkpoints of several sizes in both halves of a FRAM image, then how each reads, and how a half reads that was changed, also
-// one with a checkpoint of the older form, which comes from standard input.
+// Prints sealed checkpoints of several sizes in both halves of a FRAM image, the largest by their ends, then how each reads, and how a half
+// reads that was changed, also one with a checkpoint of the older form, which comes from standard input.
 use aes::expand_key;
 use aes::table::round_table;
 use checkpoint::half::Head;
@@ -8,12 +8,14 @@ use checkpoint::half::open_part;
 use checkpoint::half::open_secret;
 use checkpoint::half::read_head;
 use checkpoint::layout::EMPTY_LENGTH;
+use checkpoint::layout::HEAD_LENGTH;
 use checkpoint::layout::PACKET_LENGTH;
 use checkpoint::staging::seal;
 use gcm::tag::hash_steps;
 use libc::STDIN_FILENO;
 use libc::STDOUT_FILENO;
 use octets::copy_at;
+use octets::limits::PART_LIMIT;
 use octets::part;
 use octets::same;
 ghost use mathlib.Core.Path.{_≡_};
@@ -24,8 +26,13 @@ ghost use Rattle.octets.specs.Limits.{packet-limit, part-limit};
 ghost use Rattle.checkpoint.specs.Checkpoint.{head-length};
 ghost use Rattle.checkpoint.specs.Half.{form-of, open-length, secret-length, good-head};
 
-// The longest checkpoint; an image holds two.
-const HALF: usize = 8_240;
+// The longest checkpoint, 65,584 bytes; an image holds two.
+const HALF: usize = EMPTY_LENGTH + 2 * PART_LIMIT;
+
+// Checkpoints up to this length are printed whole; of longer ones the head and the last LAST bytes.
+const WHOLE: usize = 10_000;
+
+const LAST: usize = 64;
 
 const ROUNDS: usize = 14;
 
@@ -68,22 +75,22 @@ fn previous() -> [u8; 16] {
     s
 }
 
-fn first_part() -> [u8; 4096] {
-    let mut s = [0u8; 4096];
+fn first_part() -> [u8; PART_LIMIT] {
+    let mut s = [0u8; PART_LIMIT];
     rising(&mut s, 1, 7);
     s
 }
 
-fn second_part() -> [u8; 4096] {
-    let mut s = [0u8; 4096];
+fn second_part() -> [u8; PART_LIMIT] {
+    let mut s = [0u8; PART_LIMIT];
     rising(&mut s, 3, 5);
     s
 }
 
 // Seals the checkpoint into staging.
 fn stage(c: Case, staging: &mut [u8])
-    requires { ⌜ (c .packet ≤ packet-limit) × (c .«open» ≤ 4096) × (c .secret ≤ 4096) × (c .restarts ≤ 8) × (length (now staging) ≡ 8240) ⌝ }
-    ensures { λ _. ⌜ length (now (staging .exit)) ≡ 8240 ⌝ }
+    requires { ⌜ (c .packet ≤ packet-limit) × (c .«open» ≤ part-limit) × (c .secret ≤ part-limit) × (c .restarts ≤ 8) × (length (now staging) ≡ 65584) ⌝ }
+    ensures { λ _. ⌜ length (now (staging .exit)) ≡ 65584 ⌝ }
 {
     let open = c.open;
     let secret = c.secret;
@@ -118,6 +125,17 @@ fn print_bytes(s: &[u8]) {
     }
 }
 
+// Prints a checkpoint; two dots stand for what is left out of it.
+fn print_checkpoint(s: &[u8]) {
+    if s.len() <= WHOLE {
+        print_bytes(s);
+    } else {
+        print_bytes(part(s, 0, HEAD_LENGTH));
+        io::write_all(STDOUT_FILENO, b" .. ");
+        print_bytes(part(s, s.len() - LAST, LAST));
+    }
+}
+
 fn print_number(name: &[u8], n: usize) {
     io::write_all(STDOUT_FILENO, name);
     io::print_decimal(STDOUT_FILENO, n as u64);
@@ -137,10 +155,10 @@ fn print_case(c: Case) {
 
 // Puts the checkpoint into its half of the image.
 fn place(c: Case, image: &mut [u8])
-    requires { ⌜ (c .half ≤ 1) × (c .packet ≤ packet-limit) × (c .«open» ≤ 4096) × (c .secret ≤ 4096) × (c .restarts ≤ 8) × (length (now image) ≡ 16480) ⌝ }
-    ensures { λ _. ⌜ length (now (image .exit)) ≡ 16480 ⌝ }
+    requires { ⌜ (c .half ≤ 1) × (c .packet ≤ packet-limit) × (c .«open» ≤ part-limit) × (c .secret ≤ part-limit) × (c .restarts ≤ 8) × (length (now image) ≡ 131168) ⌝ }
+    ensures { λ _. ⌜ length (now (image .exit)) ≡ 131168 ⌝ }
 {
-    let mut staging = [0u8; 8240];
+    let mut staging = [0u8; HALF];
     stage(c, &mut staging);
     let i = c.half * HALF;
     let n = EMPTY_LENGTH + c.open + c.secret;
@@ -149,29 +167,29 @@ fn place(c: Case, image: &mut [u8])
 
 // Prints what the checkpoint's half then begins with.
 fn show(c: Case)
-    requires { ⌜ (c .half ≤ 1) × (c .packet ≤ packet-limit) × (c .«open» ≤ 4096) × (c .secret ≤ 4096) × (c .restarts ≤ 8) ⌝ }
+    requires { ⌜ (c .half ≤ 1) × (c .packet ≤ packet-limit) × (c .«open» ≤ part-limit) × (c .secret ≤ part-limit) × (c .restarts ≤ 8) ⌝ }
 {
-    let mut image = [0xFFu8; 16480];
+    let mut image = [0xFFu8; 2 * HALF];
     place(c, &mut image);
     print_case(c);
     io::write_all(STDOUT_FILENO, b"\n");
     let i = c.half * HALF;
     let n = EMPTY_LENGTH + c.open + c.secret;
-    print_bytes(part(&image, i, n));
+    print_checkpoint(part(&image, i, n));
     io::write_all(STDOUT_FILENO, b"\n");
 }
 
 // Whether the open part is the one sealed.
 fn open_agrees(half: &[u8], start: usize, open: usize) -> bool
-    requires { ⌜ (good-head part-limit (form-of (now half)) (now half) ≡ true) × (start ≡ head-length (form-of (now half))) × («open» ≡ open-length (form-of (now half)) (now half)) × («open» ≤ 4096) ⌝ }
+    requires { ⌜ (good-head part-limit (form-of (now half)) (now half) ≡ true) × (start ≡ head-length (form-of (now half))) × («open» ≡ open-length (form-of (now half)) (now half)) × («open» ≤ part-limit) ⌝ }
 {
     let first = first_part();
     same(open_part(half, start, open), part(&first, 0, open))
 }
 
 // Whether a state begins with the secret part that was sealed.
-fn secret_agrees(state: &[u8; 4096], secret: usize) -> bool
-    requires { ⌜ secret ≤ 4096 ⌝ }
+fn secret_agrees(state: &[u8; PART_LIMIT], secret: usize) -> bool
+    requires { ⌜ secret ≤ part-limit ⌝ }
 {
     let second = second_part();
     same(part(state, 0, secret), part(&second, 0, secret))
@@ -187,7 +205,7 @@ fn head_agrees(head: Head, c: Case) -> bool {
 
 // Stop 12, or 0 where both parts are the ones sealed, else 1.
 fn opened(half: &[u8], start: usize, open: usize, secret: usize, first: u8) -> usize
-    requires { ⌜ (good-head part-limit (form-of (now half)) (now half) ≡ true) × (start ≡ head-length (form-of (now half))) × («open» ≡ open-length (form-of (now half)) (now half)) × (secret ≡ secret-length (form-of (now half)) (now half)) × («open» ≤ 4096) × (secret ≤ 4096) ⌝ }
+    requires { ⌜ (good-head part-limit (form-of (now half)) (now half) ≡ true) × (start ≡ head-length (form-of (now half))) × («open» ≡ open-length (form-of (now half)) (now half)) × (secret ≡ secret-length (form-of (now half)) (now half)) × («open» ≤ part-limit) × (secret ≤ part-limit) ⌝ }
 {
     let same_open = open_agrees(half, start, open);
     let table = round_table();
@@ -205,7 +223,7 @@ fn opened(half: &[u8], start: usize, open: usize, secret: usize, first: u8) -> u
         open,
         secret,
     ) {
-        let mut state = [0u8; 4096];
+        let mut state = [0u8; PART_LIMIT];
         open_secret(
             &table,
             &keys,
@@ -246,9 +264,9 @@ fn reads(half: &[u8], c: Case) -> usize {
 
 // Prints how the checkpoint reads from its half.
 fn show_reading(c: Case)
-    requires { ⌜ (c .half ≤ 1) × (c .packet ≤ packet-limit) × (c .«open» ≤ 4096) × (c .secret ≤ 4096) × (c .restarts ≤ 8) ⌝ }
+    requires { ⌜ (c .half ≤ 1) × (c .packet ≤ packet-limit) × (c .«open» ≤ part-limit) × (c .secret ≤ part-limit) × (c .restarts ≤ 8) ⌝ }
 {
-    let mut image = [0xFFu8; 16480];
+    let mut image = [0xFFu8; 2 * HALF];
     place(c, &mut image);
     print_case(c);
     let i = c.half * HALF;
@@ -258,8 +276,8 @@ fn show_reading(c: Case)
 
 // Prints how the first n bytes of a half with the checkpoint read, with one byte changed, which then comes back.
 fn show_change(name: &[u8], c: Case, half: &mut [u8], n: usize, at: usize, byte: u8)
-    requires { ⌜ (n ≤ 8240) × (at < 8240) × (length (now half) ≡ 8240) ⌝ }
-    ensures { λ _. ⌜ length (now (half .exit)) ≡ 8240 ⌝ }
+    requires { ⌜ (n ≤ 65584) × (at < 65584) × (length (now half) ≡ 65584) ⌝ }
+    ensures { λ _. ⌜ length (now (half .exit)) ≡ 65584 ⌝ }
 {
     let before = half[at];
     half[at] = byte;
@@ -277,8 +295,8 @@ fn a_case(
     restarts: usize,
     first: u8,
 ) -> Case
-    requires { ⌜ (half ≤ 1) × (packet ≤ packet-limit) × («open» ≤ 4096) × (secret ≤ 4096) × (restarts ≤ 8) ⌝ }
-    ensures { λ r. ⌜ (r .half ≤ 1) × (r .packet ≤ packet-limit) × (r .«open» ≤ 4096) × (r .secret ≤ 4096) × (r .restarts ≤ 8) ⌝ }
+    requires { ⌜ (half ≤ 1) × (packet ≤ packet-limit) × («open» ≤ part-limit) × (secret ≤ part-limit) × (restarts ≤ 8) ⌝ }
+    ensures { λ r. ⌜ (r .half ≤ 1) × (r .packet ≤ packet-limit) × (r .«open» ≤ part-limit) × (r .secret ≤ part-limit) × (r .restarts ≤ 8) ⌝ }
 {
     Case {
         half,
@@ -290,9 +308,9 @@ fn a_case(
     }
 }
 
-// The checkpoint with a number, 0 to 7.
+// The checkpoint with a number, 0 to 9.
 fn numbered(k: usize) -> Case
-    ensures { λ r. ⌜ (r .half ≤ 1) × (r .packet ≤ packet-limit) × (r .«open» ≤ 4096) × (r .secret ≤ 4096) × (r .restarts ≤ 8) ⌝ }
+    ensures { λ r. ⌜ (r .half ≤ 1) × (r .packet ≤ packet-limit) × (r .«open» ≤ part-limit) × (r .secret ≤ part-limit) × (r .restarts ≤ 8) ⌝ }
 {
     match k {
         0 => a_case(0, 0, 0, 0, 0, 0),
@@ -302,26 +320,28 @@ fn numbered(k: usize) -> Case
         4 => a_case(0, 5, 8, 4, 3, 48),
         5 => a_case(1, 1_073_741_823, 20, 36, 4, 64),
         6 => a_case(0, 16_777_216, 4096, 4096, 5, 80),
-        _ => a_case(1, 305_419_896, 4096, 4096, 6, 96),
+        7 => a_case(1, 305_419_896, 4096, 4096, 6, 96),
+        8 => a_case(0, 2, 32_768, 32_768, 7, 112),
+        _ => a_case(1, 3, 32_768, 32_768, 8, 128),
     }
 }
 
 fn show_all() {
-    for k in 0..8usize {
+    for k in 0..10usize {
         show(numbered(k));
     }
 }
 
 fn show_readings() {
-    for k in 0..8usize {
+    for k in 0..10usize {
         show_reading(numbered(k));
     }
 }
 
 // Words of another kind. Those from the open part's length on stand at offset i.
 fn show_kinds(c: Case, half: &mut [u8], i: usize)
-    requires { ⌜ (i ≤ 4) × (length (now half) ≡ 8240) ⌝ }
-    ensures { λ _. ⌜ length (now (half .exit)) ≡ 8240 ⌝ }
+    requires { ⌜ (i ≤ 4) × (length (now half) ≡ 65584) ⌝ }
+    ensures { λ _. ⌜ length (now (half .exit)) ≡ 65584 ⌝ }
 {
     show_change(b"open length of kind 0", c, half, HALF, i, 0x00);
     show_change(b"open length of kind 2", c, half, HALF, i, 0x80);
@@ -332,20 +352,20 @@ fn show_kinds(c: Case, half: &mut [u8], i: usize)
 
 // Words with another value.
 fn show_values(c: Case, half: &mut [u8], i: usize)
-    requires { ⌜ (i ≤ 4) × (length (now half) ≡ 8240) ⌝ }
-    ensures { λ _. ⌜ length (now (half .exit)) ≡ 8240 ⌝ }
+    requires { ⌜ (i ≤ 4) × (length (now half) ≡ 65584) ⌝ }
+    ensures { λ _. ⌜ length (now (half .exit)) ≡ 65584 ⌝ }
 {
-    show_change(b"open part of 1026 words", c, half, HALF, i + 2, 0x04);
+    show_change(b"open part of 8194 words", c, half, HALF, i + 2, 0x20);
     show_change(b"open part of 1 word", c, half, HALF, i + 3, 1);
-    show_change(b"secret part of 1025 words", c, half, HALF, i + 6, 0x04);
+    show_change(b"secret part of 8193 words", c, half, HALF, i + 6, 0x20);
     show_change(b"9 restarts", c, half, HALF, i + 11, 9);
     show_change(b"8 restarts", c, half, HALF, i + 11, 8);
 }
 
 // Another byte behind the words, where the parts have 8 and 4.
 fn show_bytes(c: Case, half: &mut [u8], i: usize)
-    requires { ⌜ (i ≤ 4) × (length (now half) ≡ 8240) ⌝ }
-    ensures { λ _. ⌜ length (now (half .exit)) ≡ 8240 ⌝ }
+    requires { ⌜ (i ≤ 4) × (length (now half) ≡ 65584) ⌝ }
+    ensures { λ _. ⌜ length (now (half .exit)) ≡ 65584 ⌝ }
 {
     show_change(b"a byte of the previous tag", c, half, HALF, i + 12, 0);
     show_change(b"a byte of the open part", c, half, HALF, i + 28, 0);
@@ -362,8 +382,8 @@ fn show_bytes(c: Case, half: &mut [u8], i: usize)
 
 // Shorter halves.
 fn show_ends(c: Case, half: &mut [u8], i: usize)
-    requires { ⌜ (i ≤ 4) × (length (now half) ≡ 8240) ⌝ }
-    ensures { λ _. ⌜ length (now (half .exit)) ≡ 8240 ⌝ }
+    requires { ⌜ (i ≤ 4) × (length (now half) ≡ 65584) ⌝ }
+    ensures { λ _. ⌜ length (now (half .exit)) ≡ 65584 ⌝ }
 {
     show_change(b"a half that ends with it", c, half, i + 56, i, 0x40);
     show_change(
@@ -377,8 +397,8 @@ fn show_ends(c: Case, half: &mut [u8], i: usize)
 }
 
 fn show_changes(c: Case, half: &mut [u8], i: usize)
-    requires { ⌜ (i ≤ 4) × (length (now half) ≡ 8240) ⌝ }
-    ensures { λ _. ⌜ length (now (half .exit)) ≡ 8240 ⌝ }
+    requires { ⌜ (i ≤ 4) × (length (now half) ≡ 65584) ⌝ }
+    ensures { λ _. ⌜ length (now (half .exit)) ≡ 65584 ⌝ }
 {
     show_kinds(c, half, i);
     show_values(c, half, i);
@@ -389,7 +409,7 @@ fn show_changes(c: Case, half: &mut [u8], i: usize)
 // A half with a checkpoint of the longer form, changed.
 fn show_longer() {
     let c = a_case(0, 5, 8, 4, 3, 48);
-    let mut half = [0u8; 8240];
+    let mut half = [0u8; HALF];
     stage(c, &mut half);
     io::write_all(STDOUT_FILENO, b"the longer head\n");
     show_change(b"as it was", c, &mut half, HALF, 0, 0x00);
@@ -403,7 +423,7 @@ fn show_longer() {
 // The same of the older form; the checkpoint comes from standard input.
 fn show_older() {
     let c = a_case(0, 0, 8, 4, 3, 48);
-    let mut half = [0u8; 8240];
+    let mut half = [0u8; HALF];
     io::read_full(STDIN_FILENO, &mut half);
     io::write_all(STDOUT_FILENO, b"the older head\n");
     show_change(b"as it was", c, &mut half, HALF, 0, 0x40);

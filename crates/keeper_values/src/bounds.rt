@@ -1,5 +1,5 @@
 // The papers' bench values of the limits: what a first save says to a number of pages, a FRAM, parts of given lengths and a packet number,
-// and a power-up to a ring whose pages that are not blank do not follow each other.
+// and a power-up to a state buffer of a given length, and to a ring whose pages that are not blank do not follow each other.
 use crate::print::print;
 use crate::print::print_stop;
 use crate::values::key;
@@ -7,6 +7,7 @@ use crate::values::starting_tag;
 use keeper::Start;
 use keeper::first_save;
 use keeper::power_up;
+use octets::limits::PART_LIMIT;
 use octets::part;
 ghost use Prim.Native.Nat.{_≤_};
 
@@ -30,7 +31,7 @@ fn begin(
     open: &[u8],
     secret: &[u8],
 ) {
-    let mut staging = [0u8; 65_540];
+    let mut staging = [0u8; 131_076];
     let started = first_save(
         pages,
         2,
@@ -51,11 +52,11 @@ fn begin(
 
 // A first save on a blank ring of pages of 2 slots.
 fn try_first_save(name: &[u8], pages: usize, fram: usize, packet: usize, open: usize, secret: usize)
-    requires { ⌜ (pages ≤ 33) × (fram ≤ 131080) × («open» ≤ 4100) × (secret ≤ 4100) ⌝ }
+    requires { ⌜ (pages ≤ 33) × (fram ≤ 262152) × («open» ≤ 32772) × (secret ≤ 32772) ⌝ }
 {
     let ring = [0xFFu8; 1056];
-    let image = [0u8; 131_080];
-    let bytes = [0u8; 4100];
+    let image = [0u8; 262_152];
+    let bytes = [0u8; 32_772];
     begin(
         name,
         pages,
@@ -67,27 +68,32 @@ fn try_first_save(name: &[u8], pages: usize, fram: usize, packet: usize, open: u
     );
 }
 
-// A ring of 4 pages of 2 slots, where pages 0 and 2 are not blank.
+// Begins a power-up with a ring of 4 pages of 2 slots and prints what it says.
+fn try_power_up(name: &[u8], ring: &[u8], state: &mut [u8]) {
+    let fram = [0u8; 128];
+    let mut staging = [0u8; 64];
+    let p = power_up(4, 2, ring, &fram, &key(), &[1u8; 12], &mut staging, state);
+    let start = p.start;
+    print(name);
+    print_start(start);
+}
+
+// With a blank ring, which gives 6 where the state buffer is long enough.
+pub fn show_state_bounds() {
+    let ring = [0xFFu8; 128];
+    let mut short = [0u8; 32_767];
+    try_power_up(b"state buffer of 32767 bytes, power-up", &ring, &mut short);
+    let mut state = [0u8; 32_768];
+    try_power_up(b"state buffer of 32768 bytes, power-up", &ring, &mut state);
+}
+
+// With pages 0 and 2 not blank.
 pub fn show_parted_ring() {
     let mut ring = [0xFFu8; 128];
     ring[0] = 0;
     ring[64] = 0;
-    let fram = [0u8; 128];
-    let mut staging = [0u8; 64];
-    let mut state = [0u8; 4096];
-    let p = power_up(
-        4,
-        2,
-        &ring,
-        &fram,
-        &key(),
-        &[1u8; 12],
-        &mut staging,
-        &mut state,
-    );
-    let start = p.start;
-    print(b"pages 0 and 2 of 4 not blank, power-up");
-    print_start(start);
+    let mut state = [0u8; PART_LIMIT];
+    try_power_up(b"pages 0 and 2 of 4 not blank, power-up", &ring, &mut state);
 }
 
 pub fn show_fram_bounds() {
@@ -97,8 +103,8 @@ pub fn show_fram_bounds() {
     try_first_save(b"FRAM of 96 bytes, empty parts", 3, 96, 0, 0, 0);
     try_first_save(b"FRAM of 96 bytes, a word of open part", 3, 96, 0, 4, 0);
     try_first_save(b"FRAM of 96 bytes, a word of secret part", 3, 96, 0, 0, 4);
-    try_first_save(b"FRAM of 131072 bytes", 3, 131_072, 0, 0, 0);
-    try_first_save(b"FRAM of 131080 bytes", 3, 131_080, 0, 0, 0);
+    try_first_save(b"FRAM of 262144 bytes", 3, 262_144, 0, 0, 0);
+    try_first_save(b"FRAM of 262152 bytes", 3, 262_152, 0, 0, 0);
 }
 
 pub fn show_page_bounds() {
@@ -109,12 +115,12 @@ pub fn show_page_bounds() {
 }
 
 pub fn show_part_bounds() {
-    try_first_save(b"open part of 4096 bytes", 3, 131_072, 0, 4096, 0);
-    try_first_save(b"open part of 4097 bytes", 3, 131_072, 0, 4097, 0);
-    try_first_save(b"open part of 4100 bytes", 3, 131_072, 0, 4100, 0);
-    try_first_save(b"secret part of 4096 bytes", 3, 131_072, 0, 0, 4096);
-    try_first_save(b"secret part of 4097 bytes", 3, 131_072, 0, 0, 4097);
-    try_first_save(b"secret part of 4100 bytes", 3, 131_072, 0, 0, 4100);
+    try_first_save(b"open part of 32768 bytes", 3, 262_144, 0, 32_768, 0);
+    try_first_save(b"open part of 32769 bytes", 3, 262_144, 0, 32_769, 0);
+    try_first_save(b"open part of 32772 bytes", 3, 262_144, 0, 32_772, 0);
+    try_first_save(b"secret part of 32768 bytes", 3, 262_144, 0, 0, 32_768);
+    try_first_save(b"secret part of 32769 bytes", 3, 262_144, 0, 0, 32_769);
+    try_first_save(b"secret part of 32772 bytes", 3, 262_144, 0, 0, 32_772);
 }
 
 pub fn show_packet_bounds() {

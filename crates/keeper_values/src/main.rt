@@ -21,6 +21,7 @@ fn main() {
     bounds::show_page_bounds();
     bounds::show_part_bounds();
     bounds::show_packet_bounds();
+    bounds::show_state_bounds();
     bounds::show_parted_ring();
     let mut ring = [0xFFu8; 96];
     let mut fram = [0u8; 128];

@@ -21,6 +21,7 @@ use keeper::look;
 use keeper::no_session;
 use keeper::open_part;
 use libc::STDOUT_FILENO;
+use octets::limits::PART_LIMIT;
 use ring_line::ring_line;
 
 fn print_looked(ring: &[u8], fram: &[u8]) {
@@ -230,7 +231,7 @@ pub fn do_power_up(
 ) -> Session {
     print(b"power-up");
     let mut staging = [0u8; 64];
-    let mut state = [0u8; 4096];
+    let mut state = [0u8; PART_LIMIT];
     let powered = start_power_up(nonce, ring, fram, &mut staging, &mut state);
     let next = carry_on(powered, session, advances, ring, fram, &staging, &state);
     print_memories(ring, fram);

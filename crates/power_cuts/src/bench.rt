@@ -20,6 +20,7 @@ use demo_book::values::SLOTS;
 use demo_book::values::key;
 use keeper::open_part;
 use octets::fill;
+use octets::limits::PART_LIMIT;
 use octets::part;
 
 fn save_whole(unit: Unit, ring: &mut [u8], fram: &mut [u8]) -> Unit {
@@ -39,7 +40,7 @@ fn save_times(first: Unit, saves: usize, ring: &mut [u8], fram: &mut [u8]) -> Un
 
 fn begin_power_up(unit: Unit, ring: &[u8], fram: &[u8], staging: &mut [u8]) -> Unit {
     print(b"power-up    ");
-    let mut state = [0u8; 4096];
+    let mut state = [0u8; PART_LIMIT];
     unit.begin_power_up(ring, fram, staging, &mut state)
 }
 
@@ -144,7 +145,7 @@ fn stopped(unit: Unit, ring: &mut [u8]) -> Unit {
 // A power-up that runs to its end, or stops.
 fn power_up(unit: Unit, ring: &mut [u8], fram: &mut [u8]) -> Unit {
     let mut staging = [0u8; 64];
-    let mut state = [0u8; 4096];
+    let mut state = [0u8; PART_LIMIT];
     let begun = unit.begin_power_up(ring, fram, &mut staging, &mut state);
     if begun.stop != 0 {
         return stopped(begun, ring);

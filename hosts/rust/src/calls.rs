@@ -27,6 +27,8 @@ pub const RESTORED: u32 = 258;
 pub const JOB: usize = 64;
 /// How many bytes a session is.
 pub const SESSION: usize = 48;
+/// The least length of a state buffer, in bytes.
+pub const STATE: usize = 32_768;
 
 extern "C" {
     fn keeper_seal(key: *const u8, key_len: usize, nonce: *const u8, nonce_len: usize,

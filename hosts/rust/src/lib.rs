@@ -5,8 +5,8 @@
 //!
 //! - the **nonce ring** in flash: 3 to 32 pages of 2 to 512 slots ([`Sizes`]), 16 bytes a slot, 0xFF where blank. Its
 //!   newest record has the newest checkpoint's nonce and says in which half of the FRAM it stands;
-//! - the **FRAM**: a multiple of 8 bytes, from 88 to 131,072, cut into two halves. A checkpoint is 48 bytes plus an open
-//!   part and a secret part of up to 4,096 bytes each, and must fit a half.
+//! - the **FRAM**: a multiple of 8 bytes, from 88 to 262,144, cut into two halves. A checkpoint is 48 bytes plus an open
+//!   part and a secret part of up to 32,768 bytes each, and must fit a half.
 //!
 //! Checkpoints of the older form, which was 44 bytes plus the parts and had no packet number, are still read; a power-up
 //! seals them anew in the longer form.
@@ -57,7 +57,7 @@
 //! finish(sizes, &mut ring, &mut fram, &staging, job)?;
 //!
 //! // The supply dips: only ring and FRAM are left.
-//! let mut state = [0; 4096];
+//! let mut state = [0; calls::STATE];
 //! let up = power_up(sizes, &ring, &fram, &key, &[3; 12], &mut staging, &mut state)?;
 //! let secret_len = up.secret_len;
 //! let session = finish(sizes, &mut ring, &mut fram, &staging, up.job)?;
@@ -239,9 +239,9 @@ pub fn save(
     Ok(Job(job))
 }
 
-/// Opens the newest checkpoint, puts its secret part at the front of the state buffer (at least 4,096 bytes) and starts
-/// a new checkpoint of both parts under the new nonce, with one restart more and the same packet number. A checkpoint of
-/// the older form is sealed anew in the longer one, with packet number 0.
+/// Opens the newest checkpoint, puts its secret part at the front of the state buffer (at least [`calls::STATE`] bytes)
+/// and starts a new checkpoint of both parts under the new nonce, with one restart more and the same packet number. A
+/// checkpoint of the older form is sealed anew in the longer one, with packet number 0.
 ///
 /// # Errors
 ///

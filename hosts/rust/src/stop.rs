@@ -13,7 +13,7 @@ pub enum Stop {
     FramSize,
     /// 3: key not 32, nonce not 12 or tag not 16 bytes.
     KeyNonceTagSize,
-    /// 4: a part not a multiple of 4 bytes, above 4,096, or the checkpoint longer than a half; staging, state, output or
+    /// 4: a part not a multiple of 4 bytes, above 32,768, or the checkpoint longer than a half; staging, state, output or
     /// an export's text buffer too short; text or associated data above 65,536 bytes; a checkpoint of the older form that
     /// does not fit its half in the longer one.
     BufferSize,
@@ -87,7 +87,7 @@ impl Stop {
             Stop::FramSize => "FRAM or image length wrong",
             Stop::KeyNonceTagSize => "key not 32, nonce not 12 or tag not 16 bytes",
             Stop::BufferSize => {
-                "a part not a multiple of 4 bytes, above 4,096, or the checkpoint longer than a half; \
+                "a part not a multiple of 4 bytes, above 32,768, or the checkpoint longer than a half; \
                  staging, state, output or text buffer too short; text or associated data above 65,536"
             }
             Stop::RingInUse => "ring not blank",

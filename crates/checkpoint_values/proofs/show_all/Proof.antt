@@ -5,10 +5,10 @@ use Rattle.checkpoint_values.proofs.show_all.Statement.{statement}
 use Rattle.checkpoint_values.proofs.show_all.Tie as tie
 
 abbrev Inv-loop : tie.InvT-loop
-Inv-loop k₀ k = k ≤ 8
+Inv-loop k₀ k = k ≤ 10
 
 abbrev μ-loop : tie.MeasureT-loop
-μ-loop k₀ k = 8 - k
+μ-loop k₀ k = 10 - k
 
 pub show-all-spec : {M : Type 1} → statement M
 show-all-spec =

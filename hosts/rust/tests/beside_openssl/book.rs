@@ -54,7 +54,7 @@ impl Book {
     /// "for a first save the starting tag instead"; A.2: "A first save stores its number with restarts 0."
     pub fn first_save(
         &mut self,
-        firmware: Form,
+        form: Form,
         nonce: &[u8],
         starting_tag: &[u8],
         packet: u32,
@@ -62,8 +62,8 @@ impl Book {
         secret: &[u8],
     ) {
         let checkpoint = Checkpoint {
-            form: firmware,
-            packet: if firmware == Form::Longer { packet } else { 0 },
+            form,
+            packet: if form == Form::Longer { packet } else { 0 },
             open_part: open_part.to_vec(),
             secret: secret.to_vec(),
             restarts: 0,
@@ -76,12 +76,12 @@ impl Book {
     /// "for a save its parts, restarts 0 and the entry's tag as previous one"; A.2: "a save's restarts and number in it are
     /// set as here": "Above the session's number it sets restarts to 0; otherwise restarts carry over, and the larger
     /// number is stored." The session's number is the entry's.
-    pub fn save(&mut self, firmware: Form, nonce: &[u8], packet: u32, open_part: &[u8], secret: &[u8]) {
+    pub fn save(&mut self, form: Form, nonce: &[u8], packet: u32, open_part: &[u8], secret: &[u8]) {
         let entry = self.entry.as_ref().expect("a save that did not stop, and no entry");
-        let sets_to_0 = firmware == Form::Older || packet > entry.packet;
+        let sets_to_0 = form == Form::Older || packet > entry.packet;
         let checkpoint = Checkpoint {
-            form: firmware,
-            packet: if firmware == Form::Longer { packet.max(entry.packet) } else { 0 },
+            form,
+            packet: if form == Form::Longer { packet.max(entry.packet) } else { 0 },
             open_part: open_part.to_vec(),
             secret: secret.to_vec(),
             restarts: if sets_to_0 { 0 } else { entry.restarts },
@@ -92,10 +92,10 @@ impl Book {
     }
 
     /// "for a power-up the entry's parts, restarts one more and the entry's tag"; A.2: "A power-up keeps the number."
-    pub fn power_up(&mut self, firmware: Form, nonce: &[u8]) {
+    pub fn power_up(&mut self, form: Form, nonce: &[u8]) {
         let entry = self.entry.as_ref().expect("a power-up that did not stop, and no entry");
         let checkpoint = Checkpoint {
-            form: firmware,
+            form,
             restarts: entry.restarts + 1,
             previous_tag: entry.tag(&self.key),
             nonce: nonce.try_into().unwrap(),

@@ -1,5 +1,6 @@
 //! Sealed checkpoints, byte for byte, as they stand in staging after each start and in the FRAM after the last store.
 
+use crate::firmware::KEEPER;
 use crate::layout::{half_of, tag_of, Checkpoint, Form, LARGEST_PACKET};
 use crate::random::Random;
 use godwitshelf::*;
@@ -67,7 +68,7 @@ fn four_checkpoints(random: &mut Random, open: usize, secret: usize, spare: usiz
     assert!(half_of(&fram, 1)[..sealed.len()] == sealed);
 
     let mut staging = before.clone();
-    let mut state = vec![0x5A; 4096 + spare];
+    let mut state = vec![0x5A; KEEPER.part_limit + spare];
     let up = power_up(SIZES, &ring, &fram, &key, &nonces[2], &mut staging, &mut state).unwrap();
     let third = Checkpoint { restarts: 1, previous_tag: tag_of(&sealed), nonce: nonces[2], ..second };
     let sealed = checked(&staging, &before, &key, &third);
@@ -100,16 +101,18 @@ fn small_parts_of_every_size() {
 }
 
 #[test]
-fn parts_to_4096() {
+fn parts_to_32768() {
     let mut random = Random::new(6);
-    let limits = [0, 4, 2048, 4092, 4096];
+    let most = KEEPER.part_limit;
+    let limits = [0, 4, 4096, 4100, most - 4, most];
     for open in limits {
         for secret in limits {
             four_checkpoints(&mut random, open, secret, 0);
         }
     }
     for _ in 0..100 {
-        let (open, secret, spare) = (4 * random.below(1025), 4 * random.below(1025), random.below(50));
+        let [open, secret] = [0; 2].map(|_| 4 * random.below(most / 4 + 1));
+        let spare = random.below(50);
         four_checkpoints(&mut random, open, secret, spare);
     }
 }

@@ -1,10 +1,11 @@
 //! A call made by the keeper and by the documents, on the same bytes.
 
-use crate::layout::Form;
+use crate::firmware::KEEPER;
 use crate::operations::{perform, Lent, Operation};
 use godwitshelf::{calls, Sizes};
 use std::cell::RefCell;
 use std::collections::{BTreeMap, BTreeSet};
+use std::rc::Rc;
 
 thread_local! {
     /// How often each call gave each answer, in this thread's test.
@@ -28,7 +29,7 @@ fn keeper(operation: Operation, c: &mut Lent) -> u32 {
         Operation::Save => calls::save(sizes, &c.ring, &c.fram, &c.key, &c.nonce, &c.session,
             c.packet, &c.open_part, &c.secret, &mut c.staging, &mut c.job),
         Operation::PowerUp => calls::power_up(sizes, &c.ring, &c.fram, &c.key, &c.nonce,
-            &mut c.staging, &mut c.state, &mut c.job, &mut c.secret_len),
+            &mut c.staging, Rc::make_mut(&mut c.state).as_mut_slice(), &mut c.job, &mut c.secret_len),
         Operation::Look => calls::look(sizes, &c.ring, &c.fram, &c.key,
             &mut c.restarts, &mut c.open_start, &mut c.open_len),
         Operation::Advance => calls::advance(sizes, &mut c.ring, &mut c.fram, &c.staging, &mut c.job, &mut c.session),
@@ -39,17 +40,27 @@ fn keeper(operation: Operation, c: &mut Lent) -> u32 {
 /// Makes the call on `lent`. An error says where the answer, a lent byte or a number behind a pointer differs from
 /// the documents; nothing may change on a stop, and what is lent for reading never.
 pub fn call(operation: Operation, lent: &mut Lent) -> Result<u32, String> {
+    Ok(calls_in_a_row(operation, 1, lent)?[0])
+}
+
+/// So many calls; the bytes are compared after the last.
+pub fn calls_in_a_row(operation: Operation, times: usize, lent: &mut Lent) -> Result<Vec<u32>, String> {
     let mut expected = lent.clone();
-    let expected_answer = perform(Form::Longer, operation, &mut expected);
-    let answer = keeper(operation, lent);
-    if answer != expected_answer {
-        return Err(format!("{operation:?} answers {answer}, not {expected_answer}"));
+    let mut answers = Vec::with_capacity(times);
+    for _ in 0..times {
+        let expected_answer = perform(KEEPER, operation, &mut expected);
+        let answer = keeper(operation, lent);
+        if answer != expected_answer {
+            return Err(format!("{operation:?} answers {answer}, not {expected_answer}"));
+        }
+        ANSWERS.with_borrow_mut(|answers| *answers.entry((operation, answer)).or_default() += 1);
+        answers.push(answer);
     }
     if *lent != expected {
-        return Err(format!("{operation:?} answers {answer}, but {}", difference(lent, &expected)));
+        let last = answers.last().copied().unwrap_or_default();
+        return Err(format!("{operation:?} answers {last}, but {}", difference(lent, &expected)));
     }
-    ANSWERS.with_borrow_mut(|answers| *answers.entry((operation, answer)).or_default() += 1);
-    Ok(answer)
+    Ok(answers)
 }
 
 /// The first difference, in words.
@@ -64,7 +75,7 @@ fn difference(found: &Lent, expected: &Lent) -> String {
         ("open part", &found.open_part, &expected.open_part),
         ("secret part", &found.secret, &expected.secret),
         ("staging", &found.staging, &expected.staging),
-        ("state", &found.state, &expected.state),
+        ("state", &*found.state, &*expected.state),
         ("job", &found.job, &expected.job),
     ];
     for (name, found, expected) in buffers {

@@ -1,8 +1,8 @@
 //! Every cut of a whole save and of a whole power-up, in every place of the newest record, with several leftovers; then
 //! every cut of the power-up that follows; after each a power-up that must resume the checkpoint recorded last. The save
-//! and the power-up are the keeper's or the older firmware's, the power-ups that follow the keeper's.
+//! and the power-up are the keeper's or an older firmware's, the power-ups that follow the keeper's.
 
-use crate::layout::Form;
+use crate::firmware::{Firmware, DOCUMENT_01, KEEPER};
 use crate::unit::{Heard, Left, Setup, Unit};
 
 const LEFT: [Left; 7] =
@@ -55,7 +55,7 @@ fn every_cut_of(unit: &Unit, start: Start) -> Result<(), String> {
         let here = |words: String| format!("{start:?} cut {first}: {words}");
         unit.trial().map_err(here)?;
         let mut again = unit.clone();
-        again.update();
+        again.update(KEEPER);
         again.power_up().map_err(here)?;
         for (second, unit) in after_every_cut(&again).map_err(here)? {
             unit.trial().map_err(|words| here(format!("power-up cut {second}: {words}")))?;
@@ -65,7 +65,7 @@ fn every_cut_of(unit: &Unit, start: Start) -> Result<(), String> {
 }
 
 /// Records in every place of the ring, twice around; every third is a power-up's.
-fn every_cut(firmware: Form, pages: usize, slots: usize, half: usize) -> Result<(), String> {
+fn every_cut(firmware: Firmware, pages: usize, slots: usize, half: usize) -> Result<(), String> {
     let mut unit = Unit::new(&Setup { pages, slots, fram: 2 * half, firmware, seed: 7 });
     every_cut_of(&unit, Start::FirstSave)?;
     for n in 0..2 * pages * slots {
@@ -87,21 +87,21 @@ fn every_cut(firmware: Form, pages: usize, slots: usize, half: usize) -> Result<
 
 #[test]
 fn every_cut_on_3_pages_of_2_slots() {
-    every_cut(Form::Longer, 3, 2, 48 + 12).unwrap_or_else(|words| panic!("{words}"));
+    every_cut(KEEPER, 3, 2, 48 + 12).unwrap_or_else(|words| panic!("{words}"));
 }
 
 #[test]
 fn every_cut_on_4_pages_of_2_slots() {
-    every_cut(Form::Longer, 4, 2, 48 + 12).unwrap_or_else(|words| panic!("{words}"));
+    every_cut(KEEPER, 4, 2, 48 + 12).unwrap_or_else(|words| panic!("{words}"));
 }
 
 #[test]
-fn every_cut_of_the_older_firmware() {
-    every_cut(Form::Older, 3, 2, 48 + 12).unwrap_or_else(|words| panic!("{words}"));
+fn every_cut_of_document_01s_firmware() {
+    every_cut(DOCUMENT_01, 3, 2, 48 + 12).unwrap_or_else(|words| panic!("{words}"));
 }
 
 /// Its checkpoints fill their halves, so that a power-up gives 4.
 #[test]
-fn every_cut_of_the_older_firmware_in_full_halves() {
-    every_cut(Form::Older, 3, 2, 44 + 12).unwrap_or_else(|words| panic!("{words}"));
+fn every_cut_of_document_01s_firmware_in_full_halves() {
+    every_cut(DOCUMENT_01, 3, 2, 44 + 12).unwrap_or_else(|words| panic!("{words}"));
 }

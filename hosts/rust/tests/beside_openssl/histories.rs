@@ -1,8 +1,9 @@
 //! Random histories under demand 3. `HISTORIES=n SEED=s cargo test histories` runs n of them from seed s on. One that
-//! fails is made smaller, event by event and number by number, and printed. In two of five the unit has the older firmware
+//! fails is made smaller, event by event and number by number, and printed. In half of them the unit has an older firmware
 //! up to some cut.
 
 use crate::compare::{ANSWERS, SEEN};
+use crate::firmware::{Firmware, A_2, DOCUMENT_01, KEEPER};
 use crate::history::{Event, History, Twist};
 use crate::layout::{Form, LARGEST_PACKET};
 use crate::operations::Operation;
@@ -35,15 +36,19 @@ fn histories() {
     }
 }
 
-/// What A.2 adds and no answer shows by itself, in the order of the alphabet.
-const TO_BE_SEEN: [&str; 7] = [
+/// What A.2 and A.5 add and no answer shows by itself, in the order of the alphabet.
+const TO_BE_SEEN: [&str; 11] = [
     "13 before the resealing's 4",
     "13 for the older form",
     "4 for a resealing that outgrows the half",
-    "8 for a session of the older firmware",
+    "8 for a session of the older form",
+    "a part of 32,768 bytes resumed",
     "restarts carried over",
     "restarts set to 0",
     "the older form resealed",
+    "updated from A.2's firmware to A.5's",
+    "updated from document 01's firmware to A.2's",
+    "updated from document 01's firmware to A.5's",
 ];
 
 /// Every answer that the documents have for each call, 14 for a job buffer of a wrong length included.
@@ -62,12 +67,13 @@ fn every_answer() -> Vec<(Operation, u32)> {
 
 fn generated(seed: u64) -> History {
     let mut random = Random::new(seed);
-    let firmware = if random.chance(2, 5) { Form::Older } else { Form::Longer };
+    let firmware = random.pick(&[DOCUMENT_01, DOCUMENT_01, A_2, KEEPER, KEEPER, KEEPER]);
+    let largest = firmware.form.empty() + 2 * firmware.part_limit;
     let setup = match random.below(60) {
         // Long checkpoints and memories of the largest size are slow, so they are few.
         0 => Setup { pages: 32, slots: 512, fram: 88 + 8 * random.below(10), firmware, seed },
-        1 => Setup { pages: 3, slots: 2, fram: 2 * (firmware.empty() + 4096 + 4096), firmware, seed },
-        2 => Setup { pages: 3, slots: 2, fram: 131_072, firmware, seed },
+        1 | 2 => Setup { pages: 3, slots: 2, fram: 2 * largest, firmware, seed },
+        3 | 4 => Setup { pages: 3, slots: 2, fram: firmware.fram_limit, firmware, seed },
         _ => Setup {
             pages: random.pick(&[3, 3, 3, 4, 4, 5, 6, 8, 32]),
             slots: random.pick(&[2, 2, 2, 3, 3, 4, 5, 8]),
@@ -78,60 +84,66 @@ fn generated(seed: u64) -> History {
         },
     };
     let large = setup.fram > 1000 || setup.slots > 100;
-    let count = if large { 12 } else { 10 + random.below(70) };
-    let mut update = if firmware == Form::Older { 2 + random.below(count) } else { usize::MAX };
+    let (count, wrongs) = if large { (40, 16) } else { (10 + random.below(70), 4) };
+    let mut running = firmware;
+    let mut update = 2 + random.below(count);
     // How often a start is a save, of 100, and how often a save brings a number that it did not hear before.
     let saves = random.pick(&[3, 10, 40, 80]);
     let fresh = random.pick(&[5, 30, 90]);
     let mut events = Vec::new();
     if random.chance(9, 10) {
-        events.push(first_save(&mut random, &setup));
+        events.push(first_save(&mut random, &setup, running));
         events.push(Event::AllBut(0));
     }
     while events.len() < count {
-        if events.len() >= update {
-            events.push(Event::Update);
-            update = usize::MAX;
+        if events.len() >= update && running != KEEPER {
+            running = random.pick(running.later());
+            events.push(Event::Update(running));
+            update = events.len() + random.below(count);
         }
         match random.below(100) {
             0..40 => {
-                events.push(start(&mut random, &setup, saves, fresh));
+                events.push(start(&mut random, &setup, running, saves, fresh));
                 events.push(Event::AllBut(0));
             }
             40..55 => {
-                events.push(start(&mut random, &setup, saves, fresh));
+                events.push(start(&mut random, &setup, running, saves, fresh));
                 // Mostly near the end, where record and erase are.
                 let stores = random.below(4);
                 let times = random.below(setup.fram / 8 + 2);
                 events.push(if random.chance(2, 3) { Event::AllBut(stores) } else { Event::Advance(times) });
                 events.push(if random.chance(4, 5) { Event::CutInto(left(&mut random)) } else { Event::Cut });
             }
-            55..60 => events.push(start(&mut random, &setup, saves, fresh)),
+            55..60 => events.push(start(&mut random, &setup, running, saves, fresh)),
             60..65 => events.push(Event::Advance(1 + random.below(8))),
             65..68 => events.push(Event::Cut),
             68..71 => events.push(Event::CutInto(left(&mut random))),
             71..75 => events.push(Event::Look),
-            _ => events.extend((0..4).map(|_| wrong(&mut random, &setup))),
+            _ => events.extend((0..wrongs).map(|_| wrong(&mut random, &setup))),
         }
     }
     History { setup, events }
 }
 
-/// Parts that fit a half in this form; empty ones where none fit.
-fn part_sizes(random: &mut Random, setup: &Setup, form: Form) -> (usize, usize) {
+/// Parts up to a limit that fit a half in this form; empty ones where none fit.
+fn part_sizes(random: &mut Random, setup: &Setup, form: Form, limit: usize) -> (usize, usize) {
     let room = (setup.fram / 2).saturating_sub(form.empty()) / 4;
-    let most = if setup.fram == 131_072 { 20 } else { room.min(1024) };
-    let open = random.below(most + 1);
-    let secret = random.below(most.min(room - open) + 1);
+    let limit = limit / 4;
+    // Long ones are slow: in the largest memories they are few.
+    let few = setup.fram >= A_2.fram_limit && random.chance(7, 8);
+    let most = if few { 20 } else { room.min(limit) };
+    let open = if random.chance(1, 10) { most } else { random.below(most + 1) };
+    let secret = most.min(room - open);
     // Some fill their half, where parts may be so long.
-    if random.chance(1, 5) && room - open <= 1024 {
-        return (4 * open, 4 * (room - open));
+    match random.below(10) {
+        0 | 1 if room - open <= limit => (4 * open, 4 * (room - open)),
+        2 => (4 * open, 4 * secret),
+        _ => (4 * open, 4 * random.below(secret + 1)),
     }
-    (4 * open, 4 * secret)
 }
 
-fn first_save(random: &mut Random, setup: &Setup) -> Event {
-    let (open, secret) = part_sizes(random, setup, setup.firmware);
+fn first_save(random: &mut Random, setup: &Setup, running: Firmware) -> Event {
+    let (open, secret) = part_sizes(random, setup, running.form, running.part_limit);
     let heard = match random.below(8) {
         0 => Heard::Number(LARGEST_PACKET),
         1 => Heard::Number(LARGEST_PACKET - 1),
@@ -155,13 +167,14 @@ fn heard(random: &mut Random, fresh: usize) -> Heard {
     }
 }
 
-fn start(random: &mut Random, setup: &Setup, saves: usize, fresh: usize) -> Event {
+fn start(random: &mut Random, setup: &Setup, running: Firmware, saves: usize, fresh: usize) -> Event {
     if random.chance(1, 12) {
-        return first_save(random, setup);
+        return first_save(random, setup, running);
     }
     if random.chance(saves, 100) {
         // After an update some outgrow their half, and are refused.
-        let (open, secret) = part_sizes(random, setup, setup.firmware);
+        let form = random.pick(&[setup.firmware.form, running.form]);
+        let (open, secret) = part_sizes(random, setup, form, running.part_limit);
         let session_back = if random.chance(1, 6) { 1 + random.below(4) } else { 0 };
         return Event::Save { session_back, heard: heard(random, fresh), open, secret, fill: random.next() };
     }
@@ -191,6 +204,10 @@ fn twist(random: &mut Random, setup: &Setup, operation: Operation) -> Twist {
     let Setup { pages, slots, fram, .. } = *setup;
     let (ring, half) = (16 * pages * slots, fram / 2);
     let room = half.saturating_sub(48);
+    let words = {
+        let [older, newer] = [A_2.part_limit as u32 / 4, KEEPER.part_limit as u32 / 4];
+        [0, 1, room as u32 / 4, room as u32 / 4 + 1, room as u32 / 4 + 2, older, older + 1, newer, newer + 1]
+    };
     let seed = random.next();
     let kind = random.below(4) as u32;
     match (operation, random.below(12)) {
@@ -223,6 +240,7 @@ fn twist(random: &mut Random, setup: &Setup, operation: Operation) -> Twist {
         },
         (Operation::FirstSave, 0..7) => Twist::BlankRing,
         (Operation::FirstSave, 7) | (Operation::Save, 6) => Twist::Packet(packet(random)),
+        (Operation::FirstSave, 8) | (Operation::Save, 7) => part_length(random, room),
         (Operation::Save, 0..5) => match random.below(11) {
             6 => Twist::PendingPage(random.pick(&[Left::Any(seed), Left::Records(seed)])),
             7..10 => Twist::NewestSession(random.pick(&[0, 1, 7, 8, 8, 9, 1 << 31]), packet(random)),
@@ -239,22 +257,17 @@ fn twist(random: &mut Random, setup: &Setup, operation: Operation) -> Twist {
         (Operation::Look | Operation::PowerUp, 0..5) => match random.below(8) {
             0 => Twist::HeadWord(0, random.pick(&[0, 0, kind]), random.pick(&[0, 1, 1 << 29, LARGEST_PACKET])),
             // Which of the next two words is which part's length depends on the form.
-            1 | 2 => Twist::HeadWord(
-                random.below(3),
-                random.pick(&[1, 1, 2, 2, kind]),
-                random.pick(&[0, room as u32 / 4, room as u32 / 4 + 1, room as u32 / 4 + 2, 1024, 1025]),
-            ),
+            1 | 2 => Twist::HeadWord(random.below(3), random.pick(&[1, 1, 2, 2, kind]), random.pick(&words)),
             3 => {
                 Twist::HeadWord(2 + random.below(2), random.pick(&[3, 3, kind]), random.pick(&[0, 1, 7, 8, 9, 1 << 29]))
             }
-            4 => {
-                let words = [0, 1, room as u32 / 4, room as u32 / 4 + 1, 1024, 1025];
-                Twist::LongerHead(random.pick(&[0, random.clone().pick(&words)]), random.pick(&words))
-            }
+            4 => Twist::LongerHead(random.pick(&[0, random.clone().pick(&words)]), random.pick(&words)),
             5 => Twist::FramByte(random.below(fram), seed as u8),
             _ => {
                 let form = random.pick(&[Form::Older, Form::Longer]);
-                let (open, secret) = part_sizes(random, setup, form);
+                // Some are larger than may be, by a word.
+                let limit = KEEPER.part_limit + random.pick(&[0, 0, 0, 4]);
+                let (open, secret) = part_sizes(random, setup, form, limit);
                 let packet = match form {
                     Form::Older => 0,
                     Form::Longer => random.pick(&[0, 1, 1 << 29, LARGEST_PACKET]),
@@ -272,10 +285,18 @@ fn packet(random: &mut Random) -> u32 {
     random.pick(&[0, 1, LARGEST_PACKET - 1, LARGEST_PACKET, LARGEST_PACKET, LARGEST_PACKET + 1, 1 << 31, u32::MAX])
 }
 
+/// A length of a part at a limit.
+fn part_length(random: &mut Random, room: usize) -> Twist {
+    let [older, newer] = [A_2.part_limit, KEEPER.part_limit];
+    let lengths = [1, 2, 3, 5, room, room + 4, older, older + 1, older + 4, newer - 4, newer, newer + 1, newer + 4];
+    let length = random.pick(&lengths);
+    random.pick(&[Twist::OpenLength(length), Twist::SecretLength(length)])
+}
+
 /// A twist that any call can be given.
 fn any_twist(random: &mut Random, setup: &Setup, ring: usize, half: usize, room: usize, seed: u64) -> Twist {
     let Setup { pages, slots, fram, .. } = *setup;
-    let parts = [1, 2, 3, 5, room, room + 4, 4092, 4096, 4097, 4100, 8192];
+    let [older, newer] = [A_2.part_limit, KEEPER.part_limit];
     match random.below(19) {
         0 => Twist::Pages(random.pick(&[0, 1, 2, 3, 32, 33, pages - 1, pages + 1, usize::MAX, 1 << 60])),
         1 => Twist::Slots(random.pick(&[0, 1, 2, 512, 513, slots - 1, slots + 1, usize::MAX, 1 << 60])),
@@ -292,17 +313,19 @@ fn any_twist(random: &mut Random, setup: &Setup, ring: usize, half: usize, room:
             fram + 1,
             fram + 4,
             fram + 8,
-            131_072,
-            131_080,
+            A_2.fram_limit,
+            A_2.fram_limit + 8,
+            KEEPER.fram_limit - 8,
+            KEEPER.fram_limit,
+            KEEPER.fram_limit + 8,
         ])),
         5 => Twist::KeyLength(random.pick(&[0, 16, 24, 31, 33, 64])),
         6 => Twist::KeyBit(random.below(256)),
         7 => Twist::NonceLength(random.pick(&[0, 8, 11, 13, 16])),
         8 => Twist::StartingTagLength(random.pick(&[0, 12, 15, 17, 32])),
-        9 => Twist::OpenLength(random.pick(&parts)),
-        10 => Twist::SecretLength(random.pick(&parts)),
+        9 | 10 => part_length(random, room),
         11 => Twist::StagingLength(random.pick(&[0, 1, half - 4, half - 1, half, half + 1])),
-        12 => Twist::StateLength(random.pick(&[0, 1, 4092, 4095, 4096, 4097])),
+        12 => Twist::StateLength(random.pick(&[0, 1, older, newer - 4, newer - 1, newer, newer + 1])),
         13 => Twist::JobLength(random.pick(&[0, 48, 56, 63, 64, 65])),
         14 => Twist::SessionLength(random.pick(&[0, 40, 47, 48, 49, 64])),
         15 => Twist::RingByte(random.below(ring), random.pick(&[0, 1, 0x40, 0x80, 0xFE, 0xFF])),
@@ -421,8 +444,6 @@ fn simpler_setups(setup: &Setup) -> Vec<Setup> {
     if setup.fram > 88 {
         less.extend([Setup { fram: 88, ..setup.clone() }, Setup { fram: setup.fram - 8, ..setup.clone() }]);
     }
-    if setup.firmware == Form::Older {
-        less.push(Setup { firmware: Form::Longer, ..setup.clone() });
-    }
+    less.extend(setup.firmware.later().iter().map(|firmware| Setup { firmware: *firmware, ..setup.clone() }));
     less
 }

@@ -1,11 +1,13 @@
 //! Histories: what happens to a unit, event by event, and calls with something wrong among them.
 
-use crate::compare::call;
+use crate::compare::{call, saw};
+use crate::firmware::{Firmware, A_2, DOCUMENT_01, KEEPER};
 use crate::layout::{half_of, read_ring, record, word, Checkpoint, Form, Newest, Reading};
 use crate::operations::*;
 use crate::random::Random;
 use crate::unit::{stopped, Heard, Left, Setup, Unit};
 use std::fmt;
+use std::rc::Rc;
 
 #[derive(Clone)]
 pub struct History {
@@ -37,8 +39,8 @@ pub enum Event {
     Look,
     Cut,
     CutInto(Left),
-    /// A cut between two calls at which the unit gets the keeper's firmware.
-    Update,
+    /// A cut between two calls at which the unit gets this firmware, if it is later than its own.
+    Update(Firmware),
     /// A call of the keeper's with something wrong, on copies. A stop leaves everything, so the list goes on from the same bytes; where
     /// document 01 has no stop for it the copies are dropped, for the list may not have such a call.
     Wrong {
@@ -133,7 +135,16 @@ impl Event {
             Event::Look => unit.look()?,
             Event::Cut => unit.cut(),
             Event::CutInto(left) => unit.cut_into(left)?,
-            Event::Update => unit.update(),
+            Event::Update(firmware) => {
+                if unit.firmware.later().contains(&firmware) {
+                    saw(match (unit.firmware, firmware) {
+                        (DOCUMENT_01, A_2) => "updated from document 01's firmware to A.2's",
+                        (DOCUMENT_01, _) => "updated from document 01's firmware to A.5's",
+                        _ => "updated from A.2's firmware to A.5's",
+                    });
+                    unit.update(firmware);
+                }
+            }
             // The unit is as it was, so there is nothing to try.
             Event::Wrong { operation, twists, fill } => return wrong(unit, operation, &twists, fill),
         }
@@ -141,19 +152,21 @@ impl Event {
     }
 }
 
-/// A trial after each advance; in a long checkpoint, whose words are much alike, after some 16 of them, and after the last.
+/// A trial after each advance; in a long checkpoint or a large FRAM after each run of them, and after each of the last.
 fn advance(unit: &mut Unit, times: usize) -> Result<(), String> {
-    let every = 1 + unit.book.to_come().len() / 128 * 8;
-    for i in 0..times {
-        let answer = unit.advance()?;
-        if i % every == 0 || unit.book.to_come().len() < 3 {
-            unit.trial()?;
-        }
+    let stride = unit.stride();
+    let mut left = times;
+    while left > 0 {
+        let before_the_last = unit.book.to_come().len().saturating_sub(3);
+        let advances = stride.min(before_the_last).clamp(1, left);
+        let answer = unit.advances(advances)?;
+        unit.trial()?;
         if answer != GOING_ON {
             break;
         }
+        left -= advances;
     }
-    unit.trial()
+    Ok(())
 }
 
 /// The call, and if it does not stop some advances of the job that it answers.
@@ -161,14 +174,22 @@ fn wrong(unit: &Unit, operation: Operation, twists: &[Twist], fill: u64) -> Resu
     let mut lent = unit.lent.clone();
     let mut random = Random::new(fill);
     let room = (lent.fram.len() / 2).saturating_sub(48) / 4;
+    let most = KEEPER.part_limit / 4;
     lent.nonce = unit.new_nonce();
     lent.session = match operation {
-        Operation::Advance => random.bytes(session_length(Form::Longer)),
+        Operation::Advance => random.bytes(session_length(KEEPER.form)),
         _ => unit.session(0),
     };
     lent.packet = random.pick(&[0, 1, unit.packet(Heard::Same), unit.packet(Heard::More(1))]);
-    lent.open_part = random.bytes(4 * (room / 3));
-    lent.secret = random.bytes(4 * (room / 2));
+    lent.open_part = random.bytes(4 * most.min(room / 3));
+    lent.secret = random.bytes(4 * most.min(room / 2));
+    // An older firmware's buffers are shorter.
+    if lent.state.len() < KEEPER.part_limit {
+        Twist::StateLength(KEEPER.part_limit).apply(&mut lent, unit);
+    }
+    if operation != Operation::Advance {
+        lent.job = random.bytes(job_length(KEEPER.form));
+    }
     for twist in twists {
         twist.apply(&mut lent, unit);
     }
@@ -176,7 +197,7 @@ fn wrong(unit: &Unit, operation: Operation, twists: &[Twist], fill: u64) -> Resu
     if stopped(answer) || operation == Operation::Look {
         return Ok(());
     }
-    lent.session = random.bytes(session_length(Form::Longer));
+    lent.session = random.bytes(session_length(KEEPER.form));
     for _ in 0..60 {
         if call(Operation::Advance, &mut lent)? != GOING_ON {
             break;
@@ -202,7 +223,7 @@ impl Twist {
             Twist::OpenLength(n) => c.open_part.resize(n, 0xA5),
             Twist::SecretLength(n) => c.secret.resize(n, 0xA5),
             Twist::StagingLength(n) => c.staging.resize(n, 0xA5),
-            Twist::StateLength(n) => c.state.resize(n, 0xA5),
+            Twist::StateLength(n) => Rc::make_mut(&mut c.state).resize(n, 0xA5),
             Twist::JobLength(n) => c.job.resize(n, 0xA5),
             Twist::JobWord(i, value) => put(&mut c.job, 4 * i, &value.to_be_bytes()),
             Twist::OldJob(back) => {
@@ -210,7 +231,7 @@ impl Twist {
                     c.job = job.to_vec();
                 }
             }
-            Twist::MadeUpJob(seed) => c.job = made_up_job(c, seed).to_bytes(Form::Longer),
+            Twist::MadeUpJob(seed) => c.job = made_up_job(c, seed).to_bytes(KEEPER.form),
             Twist::SessionLength(n) => c.session.resize(n, 0xA5),
             Twist::SessionBit(bit) => turn(&mut c.session, bit),
             Twist::SessionWord(i, value) => put(&mut c.session, 4 * i, &value.to_be_bytes()),
@@ -224,7 +245,7 @@ impl Twist {
             Twist::NewestSession(restarts, packet) => {
                 if let Some(Newest { page, slot, record, .. }) = newest(unit) {
                     let session = Session { page, slot, record, tag: [0x66; 16], restarts, packet };
-                    c.session = session.to_bytes(Form::Longer);
+                    c.session = session.to_bytes(KEEPER.form);
                 }
             }
             Twist::BlankRing => c.ring.fill(0xFF),
@@ -336,9 +357,7 @@ impl fmt::Display for History {
     fn fmt(&self, f: &mut fmt::Formatter<'_>) -> fmt::Result {
         let Setup { pages, slots, fram, firmware, seed } = self.setup;
         writeln!(f, "a ring of {pages} pages of {slots} slots, a FRAM of {fram} bytes, bytes by seed {seed}")?;
-        if firmware == Form::Older {
-            writeln!(f, "the older firmware at first")?;
-        }
+        writeln!(f, "the firmware is {} at first", firmware.name)?;
         for (i, event) in self.events.iter().enumerate() {
             writeln!(f, "{:4}  {event}", i + 1)?;
         }
@@ -366,7 +385,7 @@ impl fmt::Display for Event {
             Event::Look => write!(f, "look"),
             Event::Cut => write!(f, "cut between two calls"),
             Event::CutInto(left) => write!(f, "cut into the next store, leaving {left:?}"),
-            Event::Update => write!(f, "cut between two calls, and the keeper's firmware"),
+            Event::Update(firmware) => write!(f, "cut between two calls, and {} firmware", firmware.name),
             Event::Wrong { operation, twists, .. } => write!(f, "on copies: {operation:?} with {twists:?}"),
         }
     }

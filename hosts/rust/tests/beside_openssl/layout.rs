@@ -1,6 +1,7 @@
 //! Document 01, "The nonce ring (flash)" and "A half of the FRAM", and document 02, A.2: reading a ring, and the bytes of a
 //! checkpoint in its older and its longer form.
 
+use crate::firmware::Firmware;
 use crate::openssl;
 
 /// A word of 32 bits, most significant byte first: the top two bits are its kind, the low 30 its value.
@@ -94,9 +95,9 @@ pub fn read_ring(pages: usize, slots: usize, ring: &[u8]) -> Reading {
 
 // A half of the FRAM.
 
-/// "The FRAM image is a multiple of 8 bytes, from 88 to 131,072, cut into halves A and B."
-pub fn fram_size_wrong(fram: &[u8]) -> bool {
-    fram.len() % 8 != 0 || !(88..=131_072).contains(&fram.len())
+/// "The FRAM image is a multiple of 8 bytes, from 88 to" the firmware's limit, "cut into halves A and B."
+pub fn fram_size_wrong(firmware: Firmware, fram: &[u8]) -> bool {
+    fram.len() % 8 != 0 || !(88..=firmware.fram_limit).contains(&fram.len())
 }
 
 pub fn half_of(fram: &[u8], half: usize) -> &[u8] {
@@ -105,8 +106,8 @@ pub fn half_of(fram: &[u8], half: usize) -> &[u8] {
 }
 
 /// The head of a checkpoint: document 01's, or A.2's: "The checkpoint begins with one more word, kind 0, the packet
-/// number". It also says which firmware makes a call: the older one writes the older head and knows no other.
-#[derive(Clone, Copy, Debug, PartialEq)]
+/// number".
+#[derive(Clone, Copy, Debug, PartialEq, Eq)]
 pub enum Form {
     Older,
     Longer,
@@ -187,10 +188,10 @@ pub fn tag_of(sealed: &[u8]) -> [u8; 16] {
 }
 
 /// The checkpoint at the front of a half with its own tag, or stop 11 or 12, as this firmware reads it.
-pub fn open_half(firmware: Form, half: &[u8], key: &[u8], nonce: &[u8]) -> Result<(Checkpoint, [u8; 16]), u32> {
+pub fn open_half(firmware: Firmware, half: &[u8], key: &[u8], nonce: &[u8]) -> Result<(Checkpoint, [u8; 16]), u32> {
     let (first_kind, first_value) = kind_and_value(&half[0..4]);
-    // "A first word of kind 1 means the older head, number 0, still read".
-    let (form, packet, words) = match (firmware, first_kind) {
+    // "A first word of kind 1 means the older head, number 0, still read". Document 01's firmware knows no other.
+    let (form, packet, words) = match (firmware.form, first_kind) {
         (Form::Older, _) | (Form::Longer, 1) => (Form::Older, 0, &half[..12]),
         (Form::Longer, 0) => (Form::Longer, first_value, &half[4..16]),
         // 11: "a head word's kind or value wrong, or the checkpoint longer than the half"
@@ -199,10 +200,11 @@ pub fn open_half(firmware: Form, half: &[u8], key: &[u8], nonce: &[u8]) -> Resul
     let (open_kind, open_words) = kind_and_value(&words[0..4]);
     let (secret_kind, secret_words) = kind_and_value(&words[4..8]);
     let (restarts_kind, restarts) = kind_and_value(&words[8..12]);
-    if open_kind != 1 || open_words > 1024 {
+    let most_words = firmware.part_limit as u32 / 4;
+    if open_kind != 1 || open_words > most_words {
         return Err(11);
     }
-    if secret_kind != 2 || secret_words > 1024 {
+    if secret_kind != 2 || secret_words > most_words {
         return Err(11);
     }
     if restarts_kind != 3 || restarts > 8 {

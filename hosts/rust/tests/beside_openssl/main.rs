@@ -1,14 +1,17 @@
-//! The keeper beside OpenSSL: every answer and every lent byte is compared with what document 01 and document 02's A.2
-//! say, worked out here anew over OpenSSL's AES-256-GCM; of A.4's program, the lines that it prints. Nothing in this folder
-//! uses the keeper to say what the keeper should do. The older firmware, which a unit may have had before, is worked out
-//! here likewise, from document 01 alone.
+//! The keeper beside OpenSSL: every answer and every lent byte is compared with what document 01 and document 02's A.2 and
+//! A.5 say, worked out here anew over OpenSSL's AES-256-GCM; of A.4's program, the lines that it prints. Nothing in this
+//! folder uses the keeper to say what the keeper should do. The older firmwares, which a unit may have had before, are
+//! worked out here likewise, from the documents up to them.
 
 mod book;
+mod by_hand;
 mod checkpoints;
 mod compare;
 mod cuts;
+mod firmware;
 mod histories;
 mod history;
+mod larger_parts;
 mod layout;
 mod older_images;
 mod openssl;

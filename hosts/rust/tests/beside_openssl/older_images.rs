@@ -2,9 +2,11 @@
 //! older form here, and the keeper reads them and seals them anew in the longer form.
 
 use crate::compare::call;
+use crate::firmware::{Firmware, DOCUMENT_01, KEEPER};
 use crate::layout::{half_of, read_ring, Checkpoint, Form, Newest, Reading};
 use crate::operations::*;
 use std::collections::BTreeMap;
+use std::rc::Rc;
 
 /// Each image, with what a power-up of the keeper's answers: 4 where the longer form outgrows the half, 13 at 8 restarts.
 const IMAGES: [(&str, &str, u32); 11] = [
@@ -71,7 +73,7 @@ impl Image {
     }
 
     /// The memories that the calls left, and buffers for this firmware.
-    fn lent(&self, firmware: Form, nonce: [u8; 12]) -> Lent {
+    fn lent(&self, firmware: Firmware, nonce: [u8; 12]) -> Lent {
         let fram = self.bytes("fram");
         Lent {
             pages: self.number("pages"),
@@ -80,13 +82,13 @@ impl Image {
             key: self.bytes("key"),
             nonce: nonce.to_vec(),
             starting_tag: vec![0x11; 16],
-            session: vec![0x22; session_length(firmware)],
+            session: vec![0x22; session_length(firmware.form)],
             packet: 0,
             open_part: vec![],
             secret: vec![],
             staging: vec![0x33; fram.len() / 2],
-            state: vec![0x44; 4096],
-            job: vec![0x55; job_length(firmware)],
+            state: Rc::new(vec![0x44; firmware.part_limit]),
+            job: vec![0x55; job_length(firmware.form)],
             secret_len: 0,
             restarts: 99,
             open_start: 0,
@@ -107,13 +109,13 @@ fn answer(name: &str, operation: Operation, lent: &mut Lent) -> u32 {
     call(operation, lent).unwrap_or_else(|words| panic!("{name}: {words}"))
 }
 
-/// The documents' older firmware, given the same calls, leaves the same memories; and the half that the newest record names
+/// Document 01's firmware here, given the same calls, leaves the same memories; and the half that the newest record names
 /// begins with the newest checkpoint in its older form.
 #[test]
-fn the_older_firmware_here_is_the_one_that_wrote_them() {
+fn document_01s_firmware_here_is_the_one_that_wrote_them() {
     for (name, text, _) in IMAGES {
         let image = Image::read(text);
-        let mut c = image.lent(Form::Older, [0; 12]);
+        let mut c = image.lent(DOCUMENT_01, [0; 12]);
         (c.ring, c.fram) = (vec![0xFF; c.ring.len()], image.bytes("fram-at-first"));
         for words in &image.calls {
             let operation = match words[..] {
@@ -123,7 +125,7 @@ fn the_older_firmware_here_is_the_one_that_wrote_them() {
                 }
                 ["call", "advance", count, "answers", expected] => {
                     let answers: Vec<u32> =
-                        (0..count.parse().unwrap()).map(|_| perform(Form::Older, Operation::Advance, &mut c)).collect();
+                        (0..count.parse().unwrap()).map(|_| perform(DOCUMENT_01, Operation::Advance, &mut c)).collect();
                     let (last, before) = answers.split_last().unwrap();
                     assert!(before.iter().all(|answer| *answer == GOING_ON), "{name}: {answers:?}");
                     assert_eq!(last.to_string(), expected, "{name}");
@@ -144,7 +146,7 @@ fn the_older_firmware_here_is_the_one_that_wrote_them() {
                 }
                 _ => panic!("{name}: {words:?}"),
             };
-            assert_eq!(perform(Form::Older, operation, &mut c), DONE, "{name}: {words:?}");
+            assert_eq!(perform(DOCUMENT_01, operation, &mut c), DONE, "{name}: {words:?}");
         }
         assert!(c.ring == image.bytes("ring") && c.fram == image.bytes("fram"), "{name}: other memories");
         let sealed = image.newest().sealed(&c.key);
@@ -160,7 +162,7 @@ fn the_older_firmware_here_is_the_one_that_wrote_them() {
 fn look_reads_the_older_form() {
     for (name, text, _) in IMAGES {
         let image = Image::read(text);
-        let mut c = image.lent(Form::Longer, [0xEE; 12]);
+        let mut c = image.lent(KEEPER, [0xEE; 12]);
         assert_eq!(answer(name, Operation::Look, &mut c), DONE, "{name}");
         assert_eq!(c.restarts as usize, image.number("restarts"), "{name}");
         assert_eq!(c.open_start, newest_of(&c).half * c.fram.len() / 2 + 28, "{name}");
@@ -179,7 +181,7 @@ fn a_power_up_reseals_them() {
     let mut resealed = 0;
     for (name, text, expected) in IMAGES {
         let image = Image::read(text);
-        let mut c = image.lent(Form::Longer, [0xEE; 12]);
+        let mut c = image.lent(KEEPER, [0xEE; 12]);
         let before = (c.ring.clone(), c.fram.clone());
         assert_eq!(answer(name, Operation::PowerUp, &mut c), expected, "{name}");
         let older = image.newest();
@@ -237,12 +239,12 @@ fn a_power_up_reseals_them() {
 fn a_power_loss_in_the_resealing() {
     for (name, text, _) in IMAGES.into_iter().filter(|(_, _, expected)| *expected == DONE) {
         let image = Image::read(text);
-        let mut c = image.lent(Form::Longer, [0xEE; 12]);
+        let mut c = image.lent(KEEPER, [0xEE; 12]);
         assert_eq!(answer(name, Operation::PowerUp, &mut c), DONE);
         for made in 0.. {
             let recorded = newest_of(&c).record[..12] == [0xEE; 12];
             let restarts = image.number("restarts") + usize::from(recorded);
-            let mut again = image.lent(Form::Longer, [0xDD; 12]);
+            let mut again = image.lent(KEEPER, [0xDD; 12]);
             (again.ring, again.fram) = (c.ring.clone(), c.fram.clone());
             assert_eq!(answer(name, Operation::Look, &mut again), DONE, "{name}, {made} stores");
             assert_eq!(again.restarts as usize, restarts, "{name}, {made} stores");

@@ -1,7 +1,9 @@
-//! Document 01, "What the unit calls" and "Stops, by the place of checking", with document 02's A.2: what each call of the
-//! older and of the newer firmware answers and leaves. Jobs and sessions are the bytes that the calls for C lay down.
+//! Document 01, "What the unit calls" and "Stops, by the place of checking", with document 02's A.2 and A.5: what each call
+//! of a firmware answers and leaves. Jobs and sessions are the bytes that the calls for C lay down.
 
+use crate::firmware::Firmware;
 use crate::layout::*;
+use std::rc::Rc;
 
 /// All that a call can be lent. A call uses some of it; none changes on a stop.
 #[derive(Clone, PartialEq)]
@@ -14,12 +16,13 @@ pub struct Lent {
     pub nonce: Vec<u8>,
     pub starting_tag: Vec<u8>,
     pub session: Vec<u8>,
-    /// The older firmware's calls have no such argument.
+    /// The calls of document 01's firmware have no such argument.
     pub packet: u32,
     pub open_part: Vec<u8>,
     pub secret: Vec<u8>,
     pub staging: Vec<u8>,
-    pub state: Vec<u8>,
+    /// Most calls are not lent it; shared, it costs them nothing.
+    pub state: Rc<Vec<u8>>,
     pub job: Vec<u8>,
     pub secret_len: usize,
     pub restarts: u32,
@@ -42,7 +45,7 @@ pub const SAVED: u32 = 257;
 pub const RESTORED: u32 = 258;
 
 /// What this firmware's call does: it answers 0 or the number of a stop, an advance 256, 257, 258 or the number of a stop.
-pub fn perform(firmware: Form, operation: Operation, lent: &mut Lent) -> u32 {
+pub fn perform(firmware: Firmware, operation: Operation, lent: &mut Lent) -> u32 {
     let answer = match operation {
         Operation::FirstSave => first_save(firmware, lent),
         Operation::Save => save(firmware, lent),
@@ -64,50 +67,50 @@ fn stop_if(condition: bool, number: u32) -> Result<(), u32> {
 }
 
 /// "First save: … Restarts 0, half A, page 0, slot 0." A.2: "A first save stores its number with restarts 0."
-fn first_save(firmware: Form, c: &mut Lent) -> Answer {
+fn first_save(firmware: Firmware, c: &mut Lent) -> Answer {
     stop_if(ring_size_wrong(c.pages, c.slots, &c.ring), 1)?;
-    stop_if(fram_size_wrong(&c.fram), 2)?;
+    stop_if(fram_size_wrong(firmware, &c.fram), 2)?;
     stop_if(c.key.len() != 32 || c.nonce.len() != 12 || c.starting_tag.len() != 16, 3)?;
     stop_if(parts_wrong(firmware, c) || staging_short(c), 4)?;
     stop_if(packet_wrong(firmware, c), 18)?;
     stop_if(!blank(&c.ring), 5)?;
-    stop_if(c.job.len() != job_length(firmware), 14)?;
+    stop_if(c.job.len() != job_length(firmware.form), 14)?;
     let checkpoint = Checkpoint {
-        form: firmware,
-        packet: if firmware == Form::Longer { c.packet } else { 0 },
+        form: firmware.form,
+        packet: if firmware.form == Form::Longer { c.packet } else { 0 },
         open_part: c.open_part.clone(),
         secret: c.secret.clone(),
         restarts: 0,
         previous_tag: c.starting_tag[..].try_into().unwrap(),
         nonce: c.nonce[..].try_into().unwrap(),
     };
-    start(firmware, c, Origin::Save, &checkpoint, None, 0, (0, 0));
+    start(c, Origin::Save, &checkpoint, None, 0, (0, 0));
     Ok(DONE)
 }
 
 /// "Save: a session besides. Restarts 0; the half the newest record does not name; the next target; previous tag from
 /// the session." A.2: "a save brings the packet number it last heard … Above the session's number it sets restarts to 0;
 /// otherwise restarts carry over, and the larger number is stored."
-fn save(firmware: Form, c: &mut Lent) -> Answer {
+fn save(firmware: Firmware, c: &mut Lent) -> Answer {
     stop_if(ring_size_wrong(c.pages, c.slots, &c.ring), 1)?;
-    stop_if(fram_size_wrong(&c.fram), 2)?;
+    stop_if(fram_size_wrong(firmware, &c.fram), 2)?;
     stop_if(c.key.len() != 32 || c.nonce.len() != 12, 3)?;
     stop_if(parts_wrong(firmware, c) || staging_short(c), 4)?;
     stop_if(packet_wrong(firmware, c), 18)?;
     let newest = newest_record(c)?;
-    let session = Session::from_bytes(firmware, &c.session).ok_or(8u32)?;
+    let session = Session::from_bytes(firmware.form, &c.session).ok_or(8u32)?;
     stop_if((session.page, session.slot, session.record) != (newest.page, newest.slot, newest.record), 8)?;
     stop_if(session.restarts > 8 || session.packet > LARGEST_PACKET, 8)?;
     stop_if(newest.pending.is_some(), 9)?;
     stop_if(newest.nonces.iter().any(|used| used[..] == c.nonce), 10)?;
-    stop_if(c.job.len() != job_length(firmware), 14)?;
-    let (restarts, packet) = match firmware {
+    stop_if(c.job.len() != job_length(firmware.form), 14)?;
+    let (restarts, packet) = match firmware.form {
         Form::Older => (0, 0),
         Form::Longer if c.packet > session.packet => (0, c.packet),
         Form::Longer => (session.restarts, session.packet),
     };
     let checkpoint = Checkpoint {
-        form: firmware,
+        form: firmware.form,
         packet,
         open_part: c.open_part.clone(),
         secret: c.secret.clone(),
@@ -115,43 +118,43 @@ fn save(firmware: Form, c: &mut Lent) -> Answer {
         previous_tag: session.tag,
         nonce: c.nonce[..].try_into().unwrap(),
     };
-    start(firmware, c, Origin::Save, &checkpoint, None, 1 - newest.half, newest.target);
+    start(c, Origin::Save, &checkpoint, None, 1 - newest.half, newest.target);
     Ok(DONE)
 }
 
 /// "Power-up: opens the newest checkpoint, puts the secret part at the front of a state buffer … and reseals both parts
 /// under the new nonce, restarts one more, previous tag the opened one's, other half, next target." A.2: "A power-up keeps
 /// the number."
-fn power_up(firmware: Form, c: &mut Lent) -> Answer {
+fn power_up(firmware: Firmware, c: &mut Lent) -> Answer {
     stop_if(ring_size_wrong(c.pages, c.slots, &c.ring), 1)?;
-    stop_if(fram_size_wrong(&c.fram), 2)?;
+    stop_if(fram_size_wrong(firmware, &c.fram), 2)?;
     stop_if(c.key.len() != 32 || c.nonce.len() != 12, 3)?;
-    stop_if(staging_short(c) || c.state.len() < 4096, 4)?;
+    stop_if(staging_short(c) || c.state.len() < firmware.part_limit, 4)?;
     let newest = newest_record(c)?;
     stop_if(newest.nonces.iter().any(|used| used[..] == c.nonce), 10)?;
     let (opened, tag) = open_half(firmware, half_of(&c.fram, newest.half), &c.key, &newest.record[..12])?;
     stop_if(opened.restarts == 8, 13)?;
     // "a resealing that outgrows the half gives 4, after 13"
-    stop_if(opened.length_in(firmware) > c.fram.len() / 2, 4)?;
-    stop_if(c.job.len() != job_length(firmware), 14)?;
-    c.state[..opened.secret.len()].copy_from_slice(&opened.secret);
+    stop_if(opened.length_in(firmware.form) > c.fram.len() / 2, 4)?;
+    stop_if(c.job.len() != job_length(firmware.form), 14)?;
+    Rc::make_mut(&mut c.state)[..opened.secret.len()].copy_from_slice(&opened.secret);
     c.secret_len = opened.secret.len();
     // "a power-up reseals it in the longer form"
     let checkpoint = Checkpoint {
-        form: firmware,
+        form: firmware.form,
         restarts: opened.restarts + 1,
         previous_tag: tag,
         nonce: c.nonce[..].try_into().unwrap(),
         ..opened
     };
-    start(firmware, c, Origin::PowerUp, &checkpoint, newest.pending, 1 - newest.half, newest.target);
+    start(c, Origin::PowerUp, &checkpoint, newest.pending, 1 - newest.half, newest.target);
     Ok(DONE)
 }
 
 /// "Look: stores nothing and answers a stop or the restarts; a companion … hands back the open part itself."
-fn look(firmware: Form, c: &mut Lent) -> Answer {
+fn look(firmware: Firmware, c: &mut Lent) -> Answer {
     stop_if(ring_size_wrong(c.pages, c.slots, &c.ring), 1)?;
-    stop_if(fram_size_wrong(&c.fram), 2)?;
+    stop_if(fram_size_wrong(firmware, &c.fram), 2)?;
     stop_if(c.key.len() != 32, 3)?;
     let newest = newest_record(c)?;
     let (opened, _) = open_half(firmware, half_of(&c.fram, newest.half), &c.key, &newest.record[..12])?;
@@ -163,11 +166,11 @@ fn look(firmware: Form, c: &mut Lent) -> Answer {
 
 /// "An advance makes the one store its phase names: a page set to 0xFF, one word copied from staging to the half, or one
 /// record."
-fn advance(firmware: Form, c: &mut Lent) -> Answer {
+fn advance(firmware: Firmware, c: &mut Lent) -> Answer {
     stop_if(ring_size_wrong(c.pages, c.slots, &c.ring), 1)?;
-    stop_if(fram_size_wrong(&c.fram), 2)?;
-    stop_if(staging_short(c) || c.session.len() != session_length(firmware), 4)?;
-    let mut job = Job::from_bytes(firmware, &c.job).ok_or(14u32)?;
+    stop_if(fram_size_wrong(firmware, &c.fram), 2)?;
+    stop_if(staging_short(c) || c.session.len() != session_length(firmware.form), 4)?;
+    let mut job = Job::from_bytes(firmware.form, &c.job).ok_or(14u32)?;
     stop_if(job_wrong(firmware, &job, c), 14)?;
     match next_store(&job, c.slots, c.fram.len()) {
         Store::Erase(page) => page.of(&mut c.ring).fill(0xFF),
@@ -191,7 +194,7 @@ fn advance(firmware: Form, c: &mut Lent) -> Answer {
         }
         Phase::EraseAfter(_) | Phase::Done => Phase::Done,
     };
-    c.job = job.to_bytes(firmware);
+    c.job = job.to_bytes(firmware.form);
     // "The advance that reaches done says 'saved' or 'restored' with the new session: page, slot, record and tag; every
     // other one says 'going on'." A.2: "The session and the job also hold restarts and packet number."
     if job.phase != Phase::Done {
@@ -205,7 +208,7 @@ fn advance(firmware: Form, c: &mut Lent) -> Answer {
         restarts: job.restarts,
         packet: job.packet,
     };
-    c.session = session.to_bytes(firmware);
+    c.session = session.to_bytes(firmware.form);
     Ok(match job.origin {
         Origin::Save => SAVED,
         Origin::PowerUp => RESTORED,
@@ -214,16 +217,16 @@ fn advance(firmware: Form, c: &mut Lent) -> Answer {
 
 // Stops.
 
-/// Of 4: "a part not a multiple of 4 bytes, above 4,096, or the checkpoint longer than a half".
-fn parts_wrong(firmware: Form, c: &Lent) -> bool {
-    let wrong = |part: &[u8]| part.len() % 4 != 0 || part.len() > 4096;
-    let length = firmware.empty() + c.open_part.len() + c.secret.len();
+/// Of 4: "a part not a multiple of 4 bytes, above" the firmware's limit, "or the checkpoint longer than a half".
+fn parts_wrong(firmware: Firmware, c: &Lent) -> bool {
+    let wrong = |part: &[u8]| part.len() % 4 != 0 || part.len() > firmware.part_limit;
+    let length = firmware.form.empty() + c.open_part.len() + c.secret.len();
     wrong(&c.open_part) || wrong(&c.secret) || length > c.fram.len() / 2
 }
 
 /// A.2: "18 packet number too large, after 4".
-fn packet_wrong(firmware: Form, c: &Lent) -> bool {
-    firmware == Form::Longer && c.packet > LARGEST_PACKET
+fn packet_wrong(firmware: Firmware, c: &Lent) -> bool {
+    firmware.form == Form::Longer && c.packet > LARGEST_PACKET
 }
 
 /// Of 4: "staging … too short", for it is "at least one half".
@@ -242,8 +245,8 @@ fn newest_record(c: &Lent) -> Result<Newest, u32> {
 
 /// 14: "job done; length not a multiple of 4, below 44 or above the half; page, slot, half or word out of its range; or
 /// at a record the target is not blank". A.2: "14 takes 48 for 44".
-fn job_wrong(firmware: Form, job: &Job, c: &mut Lent) -> bool {
-    let length_wrong = job.length % 4 != 0 || job.length < firmware.empty() || job.length > c.fram.len() / 2;
+fn job_wrong(firmware: Firmware, job: &Job, c: &mut Lent) -> bool {
+    let length_wrong = job.length % 4 != 0 || job.length < firmware.form.empty() || job.length > c.fram.len() / 2;
     let target_wrong = job.page >= c.pages || job.slot >= c.slots || job.half > 1;
     if length_wrong || target_wrong {
         return true;
@@ -274,7 +277,7 @@ pub enum Origin {
 }
 
 /// "It also holds whether it is a save or a power-up, half, length, target, nonce and its checkpoint's own tag." A.2: and
-/// restarts and packet number, which are 0 here for the older firmware's job.
+/// restarts and packet number, which are 0 here for the older form's job.
 #[derive(Clone, Debug, PartialEq)]
 pub struct Job {
     pub phase: Phase,
@@ -289,32 +292,32 @@ pub struct Job {
     pub packet: u32,
 }
 
-/// How many bytes the calls for C take for a job.
-pub fn job_length(firmware: Form) -> usize {
-    match firmware {
+/// How many bytes the calls for C take for a job, of firmware that writes this form.
+pub fn job_length(form: Form) -> usize {
+    match form {
         Form::Older => 56,
         Form::Longer => 64,
     }
 }
 
 /// How many bytes the calls for C take for a session.
-pub fn session_length(firmware: Form) -> usize {
-    match firmware {
+pub fn session_length(form: Form) -> usize {
+    match form {
         Form::Older => 40,
         Form::Longer => 48,
     }
 }
 
 /// The last words of a job and of a session.
-fn restarts_and_packet(firmware: Form, restarts: u32, packet: u32) -> Vec<u8> {
-    match firmware {
+fn restarts_and_packet(form: Form, restarts: u32, packet: u32) -> Vec<u8> {
+    match form {
         Form::Older => vec![],
         Form::Longer => [restarts.to_be_bytes(), packet.to_be_bytes()].concat(),
     }
 }
 
 impl Job {
-    pub fn to_bytes(&self, firmware: Form) -> Vec<u8> {
+    pub fn to_bytes(&self, form: Form) -> Vec<u8> {
         let (phase, at) = match self.phase {
             Phase::EraseFirst(page) => (1, page),
             Phase::Words(word) => (2, word),
@@ -332,13 +335,13 @@ impl Job {
         }
         bytes.extend(self.nonce);
         bytes.extend(self.tag);
-        bytes.extend(restarts_and_packet(firmware, self.restarts, self.packet));
+        bytes.extend(restarts_and_packet(form, self.restarts, self.packet));
         bytes
     }
 
     /// None for bytes that are no job.
-    pub fn from_bytes(firmware: Form, bytes: &[u8]) -> Option<Job> {
-        if bytes.len() != job_length(firmware) {
+    pub fn from_bytes(form: Form, bytes: &[u8]) -> Option<Job> {
+        if bytes.len() != job_length(form) {
             return None;
         }
         let field = |i: usize| number(&bytes[4 * i..4 * i + 4]) as usize;
@@ -362,8 +365,8 @@ impl Job {
             slot: field(6),
             nonce: bytes[28..40].try_into().unwrap(),
             tag: bytes[40..56].try_into().unwrap(),
-            restarts: if firmware == Form::Longer { number(&bytes[56..60]) } else { 0 },
-            packet: if firmware == Form::Longer { number(&bytes[60..64]) } else { 0 },
+            restarts: if form == Form::Longer { number(&bytes[56..60]) } else { 0 },
+            packet: if form == Form::Longer { number(&bytes[60..64]) } else { 0 },
         })
     }
 
@@ -381,7 +384,7 @@ impl Job {
 }
 
 /// "the new session: page, slot, record and tag"; A.2: and restarts and packet number, which are 0 here for the older
-/// firmware's session.
+/// form's session.
 #[derive(Clone, Debug, PartialEq)]
 pub struct Session {
     pub page: usize,
@@ -393,19 +396,19 @@ pub struct Session {
 }
 
 impl Session {
-    pub fn to_bytes(&self, firmware: Form) -> Vec<u8> {
+    pub fn to_bytes(&self, form: Form) -> Vec<u8> {
         let mut bytes = Vec::new();
         bytes.extend((self.page as u32).to_be_bytes());
         bytes.extend((self.slot as u32).to_be_bytes());
         bytes.extend(self.record);
         bytes.extend(self.tag);
-        bytes.extend(restarts_and_packet(firmware, self.restarts, self.packet));
+        bytes.extend(restarts_and_packet(form, self.restarts, self.packet));
         bytes
     }
 
     /// None for bytes that are no session.
-    pub fn from_bytes(firmware: Form, bytes: &[u8]) -> Option<Session> {
-        if bytes.len() != session_length(firmware) {
+    pub fn from_bytes(form: Form, bytes: &[u8]) -> Option<Session> {
+        if bytes.len() != session_length(form) {
             return None;
         }
         Some(Session {
@@ -413,8 +416,8 @@ impl Session {
             slot: number(&bytes[4..8]) as usize,
             record: bytes[8..24].try_into().unwrap(),
             tag: bytes[24..40].try_into().unwrap(),
-            restarts: if firmware == Form::Longer { number(&bytes[40..44]) } else { 0 },
-            packet: if firmware == Form::Longer { number(&bytes[44..48]) } else { 0 },
+            restarts: if form == Form::Longer { number(&bytes[40..44]) } else { 0 },
+            packet: if form == Form::Longer { number(&bytes[44..48]) } else { 0 },
         })
     }
 }
@@ -422,7 +425,6 @@ impl Session {
 /// "A start seals into a staging buffer … and answers a job." "Bytes of staging … behind what is named keep their
 /// contents." "Erase first occurs only in a power-up with a pending page."
 fn start(
-    firmware: Form,
     c: &mut Lent,
     origin: Origin,
     checkpoint: &Checkpoint,
@@ -447,7 +449,7 @@ fn start(
         restarts: checkpoint.restarts,
         packet: checkpoint.packet,
     };
-    c.job = job.to_bytes(firmware);
+    c.job = job.to_bytes(checkpoint.form);
 }
 
 // Stores.

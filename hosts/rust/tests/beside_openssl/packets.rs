@@ -1,71 +1,8 @@
 //! Document 02, A.2, case by case: packet numbers and restarts, the longer head, and where the new stops stand.
 
-use crate::compare::call;
+use crate::by_hand::*;
 use crate::layout::{half_of, number, word, LARGEST_PACKET};
 use crate::operations::*;
-use crate::random::Random;
-
-/// A unit with a blank ring and these sizes; both parts are 4 bytes.
-fn lent(pages: usize, slots: usize, fram: usize) -> Lent {
-    let mut random = Random::new(17);
-    Lent {
-        pages,
-        slots,
-        ring: vec![0xFF; 16 * pages * slots],
-        fram: random.bytes(fram),
-        key: random.bytes(32),
-        nonce: vec![0; 12],
-        starting_tag: random.bytes(16),
-        session: vec![0; 48],
-        packet: 0,
-        open_part: random.bytes(4),
-        secret: random.bytes(4),
-        staging: random.bytes(fram / 2),
-        state: random.bytes(4096),
-        job: vec![0; 64],
-        secret_len: 0,
-        restarts: 0,
-        open_start: 0,
-        open_len: 0,
-    }
-}
-
-/// The call's answer, which is also the documents'.
-fn answer(operation: Operation, lent: &mut Lent) -> u32 {
-    call(operation, lent).unwrap_or_else(|words| panic!("{words}"))
-}
-
-/// The answer of a call on copies.
-fn tried(operation: Operation, lent: &Lent, change: impl FnOnce(&mut Lent)) -> u32 {
-    let mut copy = lent.clone();
-    change(&mut copy);
-    answer(operation, &mut copy)
-}
-
-/// A start with a new nonce.
-fn started(operation: Operation, lent: &mut Lent, packet: u32) -> u32 {
-    lent.nonce[11] += 1;
-    lent.packet = packet;
-    answer(operation, lent)
-}
-
-/// Advances to the end; how many stores were made.
-fn finished(lent: &mut Lent) -> usize {
-    for stores in 1.. {
-        match answer(Operation::Advance, lent) {
-            GOING_ON => (),
-            SAVED | RESTORED => return stores,
-            stop => panic!("an advance stopped with {stop}"),
-        }
-    }
-    unreachable!()
-}
-
-/// A start with a new nonce, run to its end.
-fn made(operation: Operation, lent: &mut Lent, packet: u32) {
-    assert_eq!(started(operation, lent, packet), DONE);
-    finished(lent);
-}
 
 fn with_first_save(packet: u32) -> Lent {
     let mut lent = lent(3, 2, 128);
@@ -222,7 +159,7 @@ fn a_session_out_of_range() {
         assert_eq!(tried(Operation::Save, &unit, |c| (held(c, restarts, packet), c.nonce[11] -= 1).0), 8);
         assert_eq!(tried(Operation::PowerUp, &unit, |c| held(c, restarts, packet)), DONE);
     }
-    // A session of the older firmware is 40 bytes.
+    // A session of document 01's firmware is 40 bytes.
     assert_eq!(tried(Operation::Save, &unit, |c| c.session.truncate(40)), 8);
 }
 

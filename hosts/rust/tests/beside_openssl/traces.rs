@@ -3,7 +3,8 @@
 //! `KEEPER_PROGRAMS` names its folder; without it it is in the repository's `target/bin`.
 
 use crate::book::{Book, Cut};
-use crate::layout::{blank, read_ring, Form, Reading};
+use crate::firmware::KEEPER;
+use crate::layout::{blank, read_ring, Reading};
 use crate::operations::*;
 use crate::random::Random;
 use crate::unit::stopped;
@@ -13,6 +14,7 @@ use std::fmt::Write as _;
 use std::io::Write as _;
 use std::path::{Path, PathBuf};
 use std::process::{Command, Stdio};
+use std::rc::Rc;
 use std::time::{Duration, Instant};
 
 // "the top four bits are the kind here: 1 first save, 2 save, 3 power-up, 4 cut"
@@ -72,13 +74,13 @@ impl Unit {
             key: vec![0; 32],
             nonce: vec![0; 12],
             starting_tag: vec![0; 16],
-            session: vec![0; session_length(Form::Longer)],
+            session: vec![0; session_length(KEEPER.form)],
             packet: 0,
             open_part: vec![],
             secret: vec![0; 4],
             staging: vec![0; 64],
-            state: vec![0; 4096],
-            job: vec![0; job_length(Form::Longer)],
+            state: Rc::new(vec![0; KEEPER.part_limit]),
+            job: vec![0; job_length(KEEPER.form)],
             secret_len: 0,
             restarts: 0,
             open_start: 0,
@@ -97,20 +99,20 @@ impl Unit {
         c.packet = value;
         c.secret = value.to_be_bytes().to_vec();
         let answer = match (kind, &self.session) {
-            (1, _) => perform(Form::Longer, Operation::FirstSave, c),
+            (1, _) => perform(KEEPER, Operation::FirstSave, c),
             (2, None) if blank(&c.ring) => 6,
             (2, None) => 8,
             (2, Some(session)) => {
                 c.session = session.clone();
-                perform(Form::Longer, Operation::Save, c)
+                perform(KEEPER, Operation::Save, c)
             }
-            _ => perform(Form::Longer, Operation::PowerUp, c),
+            _ => perform(KEEPER, Operation::PowerUp, c),
         };
         if !stopped(answer) {
             match kind {
-                1 => self.book.first_save(Form::Longer, &c.nonce, &c.starting_tag, c.packet, &c.open_part, &c.secret),
-                2 => self.book.save(Form::Longer, &c.nonce, c.packet, &c.open_part, &c.secret),
-                _ => self.book.power_up(Form::Longer, &c.nonce),
+                1 => self.book.first_save(KEEPER.form, &c.nonce, &c.starting_tag, c.packet, &c.open_part, &c.secret),
+                2 => self.book.save(KEEPER.form, &c.nonce, c.packet, &c.open_part, &c.secret),
+                _ => self.book.power_up(KEEPER.form, &c.nonce),
             }
         }
         self.answers.insert((kind, answer));
@@ -124,7 +126,7 @@ impl Unit {
         if !stopped(answer) {
             let stores = self.book.to_come().len();
             for _ in 0..cut.map_or(stores, |cut| stores.min(cut as usize)) {
-                let answer = perform(Form::Longer, Operation::Advance, &mut self.lent);
+                let answer = perform(KEEPER, Operation::Advance, &mut self.lent);
                 assert!(!stopped(answer));
                 self.book.advance();
                 assert_eq!(answer == GOING_ON, !self.book.to_come().is_empty());

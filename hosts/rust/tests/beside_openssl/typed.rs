@@ -55,7 +55,7 @@ fn a_units_life() {
     let (Progress::Saved(_), 16) = unit.finish(job) else { panic!() };
     assert_eq!(unit.save([3; 12], &session, 22), Err(Stop::StaleSession));
 
-    let mut state = [0; 4096];
+    let mut state = [0; calls::STATE];
     let up = power_up(SIZES, &unit.ring, &unit.fram, &KEY, &[3; 12], &mut unit.staging, &mut state).unwrap();
     assert_eq!(&state[..up.secret_len], b"t=11");
     let (Progress::Restored(session), 17) = unit.finish(up.job) else { panic!() };

@@ -1,11 +1,13 @@
 //! A unit under demand 3: its memories, what it was handed, and the book that is told of each call and cut. It has the
-//! firmware of the keeper, or up to some cut the older one (document 02, A.2).
+//! firmware of the keeper, or up to some cut an older one (document 02, A.2 and A.5).
 
 use crate::book::{self, Book, Cut};
-use crate::compare::{call, saw};
+use crate::compare::{call, calls_in_a_row, saw};
+use crate::firmware::{Firmware, KEEPER};
 use crate::layout::{blank, half_of, read_ring, Form, Reading, LARGEST_PACKET};
 use crate::operations::*;
 use crate::random::Random;
+use std::rc::Rc;
 
 #[derive(Clone, Debug)]
 pub struct Setup {
@@ -13,13 +15,16 @@ pub struct Setup {
     pub slots: usize,
     pub fram: usize,
     /// The firmware that the unit begins with.
-    pub firmware: Form,
+    pub firmware: Firmware,
     pub seed: u64,
 }
 
+/// How much longer than they must be the buffers are at the most.
+const MOST_SPARE: usize = 20;
+
 #[derive(Clone)]
 pub struct Unit {
-    pub firmware: Form,
+    pub firmware: Firmware,
     /// The memories, the key and the buffers, as the last call or cut left them.
     pub lent: Lent,
     pub book: Book,
@@ -30,6 +35,8 @@ pub struct Unit {
     /// How many starts did not stop.
     starts: usize,
     nonces: Nonces,
+    /// What state buffers hold at first.
+    noise: Rc<Vec<u8>>,
     random: Random,
 }
 
@@ -131,12 +138,12 @@ impl Unit {
             key: key.clone(),
             nonce: vec![0; 12],
             starting_tag: random.bytes(16),
-            session: random.bytes(session_length(setup.firmware)),
+            session: random.bytes(session_length(setup.firmware.form)),
             packet: 0,
             open_part: vec![],
             secret: vec![],
             staging: vec![],
-            state: vec![],
+            state: Rc::default(),
             job: vec![],
             secret_len: random.below(5000),
             restarts: random.next() as u32,
@@ -146,7 +153,8 @@ impl Unit {
         let nonces = Nonces::new(&mut random);
         let book = Book::new(&key, setup.slots);
         let firmware = setup.firmware;
-        let mut unit = Unit { firmware, lent, book, sessions: vec![], jobs: vec![], starts: 0, nonces, random };
+        let noise = Rc::new(random.bytes(KEEPER.part_limit + MOST_SPARE));
+        let mut unit = Unit { firmware, lent, book, sessions: vec![], jobs: vec![], starts: 0, nonces, noise, random };
         unit.restarted();
         unit
     }
@@ -163,7 +171,7 @@ impl Unit {
 
     /// A session that was handed out, the last one or `back` before it; none at all is one of zeros.
     pub fn session(&self, back: usize) -> Vec<u8> {
-        self.sessions.iter().rev().nth(back).cloned().unwrap_or(vec![0; session_length(self.firmware)])
+        self.sessions.iter().rev().nth(back).cloned().unwrap_or(vec![0; session_length(self.firmware.form)])
     }
 
     /// The packet number that is so heard.
@@ -177,11 +185,11 @@ impl Unit {
         }
     }
 
-    /// The call, by the unit's firmware: the keeper's, compared with the documents, or the older one's, worked out here.
+    /// The call, by the unit's firmware: the keeper's, compared with the documents, or an older one's, worked out here.
     fn call(&mut self, operation: Operation) -> Result<u32, String> {
         match self.firmware {
-            Form::Older => Ok(perform(Form::Older, operation, &mut self.lent)),
-            Form::Longer => call(operation, &mut self.lent),
+            KEEPER => call(operation, &mut self.lent),
+            older => Ok(perform(older, operation, &mut self.lent)),
         }
     }
 
@@ -204,7 +212,7 @@ impl Unit {
         (self.lent.open_part, self.lent.secret) = (open_part, secret);
         if !stopped(self.call(Operation::FirstSave)?) {
             let c = &self.lent;
-            self.book.first_save(self.firmware, &c.nonce, &c.starting_tag, c.packet, &c.open_part, &c.secret);
+            self.book.first_save(self.firmware.form, &c.nonce, &c.starting_tag, c.packet, &c.open_part, &c.secret);
             self.started();
         }
         Ok(())
@@ -219,25 +227,25 @@ impl Unit {
     ) -> Result<(), String> {
         self.lent.nonce = self.new_nonce();
         let session = self.session(session_back);
-        let older = session.len() != session_length(self.firmware);
+        let older_form = session.len() != session_length(self.firmware.form);
         let buffer = std::mem::replace(&mut self.lent.session, session);
         self.lent.packet = self.packet(heard);
         (self.lent.open_part, self.lent.secret) = (open_part, secret);
         let answer = self.call(Operation::Save)?;
-        if older {
-            check(stopped(answer), || format!("the session is the older firmware's, and a save answers {answer}"))?;
+        if older_form {
+            check(stopped(answer), || format!("the session is of the older form, and a save answers {answer}"))?;
             self.lent.session = buffer;
             if answer == 8 {
-                saw("8 for a session of the older firmware");
+                saw("8 for a session of the older form");
             }
         }
         if !stopped(answer) {
             let c = &self.lent;
             let entry = self.book.entry.as_ref().ok_or("a save that did not stop, and nothing was recorded")?;
-            if self.firmware == Form::Longer && entry.restarts > 0 {
+            if self.firmware.form == Form::Longer && entry.restarts > 0 {
                 saw(if c.packet > entry.packet { "restarts set to 0" } else { "restarts carried over" });
             }
-            self.book.save(self.firmware, &c.nonce, c.packet, &c.open_part, &c.secret);
+            self.book.save(self.firmware.form, &c.nonce, c.packet, &c.open_part, &c.secret);
             self.started();
         }
         Ok(())
@@ -254,8 +262,8 @@ impl Unit {
             check(answer == 6, || format!("nothing was recorded, and a power-up answers {answer}"))?;
             return Ok(answer);
         };
-        let outgrows = entry.length_in(self.firmware) > self.lent.fram.len() / 2;
-        let resealed = entry.form != self.firmware;
+        let outgrows = entry.length_in(self.firmware.form) > self.lent.fram.len() / 2;
+        let resealed = entry.form != self.firmware.form;
         if self.book.power_ups == 8 {
             check(answer == 13, || format!("8 power-ups were recorded, and a power-up answers {answer}"))?;
             if resealed {
@@ -272,34 +280,58 @@ impl Unit {
             if resealed {
                 saw("the older form resealed");
             }
-            self.book.power_up(self.firmware, &self.lent.nonce);
+            if entry.open_part.len().max(length) == KEEPER.part_limit {
+                saw("a part of 32,768 bytes resumed");
+            }
+            self.book.power_up(self.firmware.form, &self.lent.nonce);
             self.started();
         }
         Ok(answer)
     }
 
-    /// One advance of the job handed out last. The last of the stores to come answers 'saved' or 'restored' with a
-    /// session, every other 'going on'; where there are none it stops.
+    /// One advance of the job handed out last.
     pub fn advance(&mut self) -> Result<u32, String> {
-        let had_stores = !self.book.to_come().is_empty();
-        let answer = self.call(Operation::Advance)?;
-        if !had_stores {
+        self.advances(1)
+    }
+
+    /// So many advances of the job handed out last, at most those for its stores to come; the bytes are compared after the
+    /// last. The last of the stores to come answers 'saved' or 'restored' with a session, every other 'going on'; where
+    /// there are none an advance stops.
+    pub fn advances(&mut self, times: usize) -> Result<u32, String> {
+        let stores = self.book.to_come().len();
+        if stores == 0 {
+            let answer = self.call(Operation::Advance)?;
             check(stopped(answer), || format!("no store was to come, and an advance answers {answer}"))?;
             return Ok(answer);
         }
-        self.book.advance();
-        let expected = match self.book.origin() {
-            _ if !self.book.to_come().is_empty() => GOING_ON,
-            Some(Origin::Save) => SAVED,
-            _ => RESTORED,
+        let times = times.min(stores);
+        let answers = match self.firmware {
+            KEEPER => calls_in_a_row(Operation::Advance, times, &mut self.lent)?,
+            older => (0..times).map(|_| perform(older, Operation::Advance, &mut self.lent)).collect(),
         };
-        let stores = self.book.to_come().len();
-        check(answer == expected, || format!("{stores} stores are still to come, and an advance answers {answer}"))?;
-        if answer != GOING_ON {
+        for answer in &answers {
+            self.book.advance();
+            let expected = match self.book.origin() {
+                _ if !self.book.to_come().is_empty() => GOING_ON,
+                Some(Origin::Save) => SAVED,
+                _ => RESTORED,
+            };
+            let stores = self.book.to_come().len();
+            check(*answer == expected, || {
+                format!("{stores} stores are still to come, and an advance answers {answer}")
+            })?;
+        }
+        if times == stores {
             self.sessions.push(self.lent.session.clone());
         }
         self.handed_out();
-        Ok(answer)
+        Ok(answers[times - 1])
+    }
+
+    /// How many advances to make at a time: one, but more in a long checkpoint, whose words are much alike, and in a FRAM
+    /// that takes long to compare.
+    pub fn stride(&self) -> usize {
+        1 + 8 * (self.book.to_come().len() / 128 + self.lent.fram.len() / 65_536)
     }
 
     /// Look stops with 6 exactly if nothing was recorded; otherwise it sees the entry.
@@ -327,7 +359,7 @@ impl Unit {
             return Ok(());
         };
         let c = &mut self.lent;
-        let job = Job::from_bytes(self.firmware, &c.job).ok_or("the job handed out last is none")?;
+        let job = Job::from_bytes(self.firmware.form, &c.job).ok_or("the job handed out last is none")?;
         let cut = match (to_come, next_store(&job, c.slots, c.fram.len())) {
             (book::Store::Word, Store::Word(word)) => {
                 let word = word.of(&mut c.fram);
@@ -354,26 +386,30 @@ impl Unit {
 
     /// "The job is gone", and with it what the buffers held; they may have other lengths now.
     fn restarted(&mut self) {
-        let more = self.random.pick(&[0, 0, 1, 20]);
-        self.lent.job = self.random.bytes(job_length(self.firmware));
+        let more = self.random.pick(&[0, 0, 1, MOST_SPARE]);
+        self.lent.job = self.random.bytes(job_length(self.firmware.form));
         self.lent.staging = self.random.bytes(self.lent.fram.len() / 2 + more);
-        self.lent.state = self.random.bytes(4096 + more);
+        self.lent.state = Rc::new(self.noise[..self.firmware.part_limit + more].to_vec());
     }
 
-    /// A cut between two calls, and the keeper's firmware from there on: "up to some cut the list's calls may be those of
-    /// the older one, whose sessions are not used after it". A save that is given one of them is a refused call.
-    pub fn update(&mut self) {
-        self.firmware = Form::Longer;
-        self.lent.session = self.random.bytes(session_length(Form::Longer));
+    /// A cut between two calls, and a later firmware from there on: "up to some cut the list's calls may be those of the
+    /// older one, whose sessions are not used after it". Those of the older form are kept, for a save that is given one of
+    /// them is a refused call.
+    pub fn update(&mut self, firmware: Firmware) {
+        if firmware != self.firmware {
+            self.sessions.retain(|session| session.len() != session_length(firmware.form));
+        }
+        self.firmware = firmware;
+        self.lent.session = self.random.bytes(session_length(firmware.form));
         self.cut();
     }
 
     /// Demand 3 at the end of the list: a power-up of the keeper's on copies of the memories, with a new nonce and other
-    /// buffers. Look shows what the older firmware left.
+    /// buffers. Look shows what an older firmware left.
     pub fn trial(&self) -> Result<(), String> {
         let mut unit = self.clone();
-        unit.update();
-        if self.firmware == Form::Older {
+        unit.update(KEEPER);
+        if self.firmware != KEEPER {
             unit.look().map_err(|words| format!("a look at this point: {words}"))?;
         }
         unit.power_up_to_the_end().map_err(|words| format!("a power-up at this point: {words}"))
@@ -394,8 +430,8 @@ impl Unit {
                 let answer = self.call(Operation::FirstSave)?;
                 check(stopped(answer), || format!("the ring is in use, and a first save answers {answer}"))?;
             }
-            // It compares the answer with 'going on' and 'restored'.
-            self.advance()?;
+            // It compares the answers with 'going on' and 'restored'.
+            self.advances(self.stride())?;
         }
         let c = &self.lent;
         let Reading::Newest(newest) = read_ring(c.pages, c.slots, &c.ring) else {

@@ -1,0 +1,34 @@
+//! The firmwares that a unit may have: document 01's, that of document 02's A.2, and that of A.5, which is the keeper's.
+
+use crate::layout::Form;
+
+/// What tells them apart. Lengths are in bytes.
+#[derive(Clone, Copy, Debug, PartialEq, Eq)]
+pub struct Firmware {
+    pub name: &'static str,
+    /// The head that it writes.
+    pub form: Form,
+    /// The limit of each part, written or read, and the least state buffer.
+    pub part_limit: usize,
+    pub fram_limit: usize,
+}
+
+pub const DOCUMENT_01: Firmware =
+    Firmware { name: "document 01's", form: Form::Older, part_limit: 4096, fram_limit: 131_072 };
+
+pub const A_2: Firmware = Firmware { name: "A.2's", form: Form::Longer, ..DOCUMENT_01 };
+
+/// A.5: "Raise each part to 32,768 bytes (8,192 words) and the FRAM image to 262,144. The power-up's state buffer must be
+/// at least 32,768."
+pub const KEEPER: Firmware = Firmware { name: "A.5's", part_limit: 32_768, fram_limit: 262_144, ..A_2 };
+
+/// In the order in which a unit gets them.
+pub const FIRMWARES: [Firmware; 3] = [DOCUMENT_01, A_2, KEEPER];
+
+impl Firmware {
+    /// Those that a unit with this one may be updated to.
+    pub fn later(self) -> &'static [Firmware] {
+        let at = FIRMWARES.iter().position(|firmware| *firmware == self).unwrap();
+        &FIRMWARES[at + 1..]
+    }
+}
