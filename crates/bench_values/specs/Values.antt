@@ -1,8 +1,8 @@
 -- Document 01's bench values M1 to M13 (its section "Bench values"), as one statement over one list: what the definitions give, beside what document 01 says;
--- M13 for both forms of a head, document 01's and document 02's (A.2); and the bounds of A.2.
+-- M13 for both forms of a head, document 01's and document 02's (A.2); and the bounds of A.2 and A.5.
 use Prim.Native.Nat.{ℕ, _/_}
 use mathlib.Core.Path.{_≡_}
-use mathlib.Core.Bool.{Bool, true, false}
+use mathlib.Core.Bool.{Bool, true, false, not}
 use mathlib.Core.Option.{Option, none, some}
 use mathlib.Core.List.{List, [], _∷_, _++_, map}
 use lib.ListN.{length, replicate}
@@ -10,11 +10,11 @@ use Rattle.octets.specs.Limits.{slot-length, key-length, nonce-length, tag-leng
 use Rattle.octets.specs.Octets.{erased}
 use Rattle.sbox.specs.Field.{xtime, sub-byte}
 use Rattle.ring.specs.Ring.{Newest, Blank, Unreadable, At, AtPending, is-record, half-named, read-ring, target-page, target-slot}
-use Rattle.checkpoint.specs.Checkpoint.{Form, Older, Longer, Checkpoint, sealed, part-wrong}
-use Rattle.checkpoint.specs.Fram.{fram-wrong}
+use Rattle.checkpoint.specs.Checkpoint.{Form, Older, Longer, Checkpoint, head-words, words, sealed}
+use Rattle.checkpoint.specs.Half.{good-head}
 use Rattle.protocol.specs.Types.{Firmware, first-firmware, packet-firmware, this-firmware, Session}
 use Rattle.protocol.specs.Calls.{sizes}
-use Rattle.protocol.specs.Operations.{state-wrong, session-wrong, save-restarts, larger, first-save-stop}
+use Rattle.protocol.specs.Operations.{session-wrong, save-restarts, larger, first-save-stop, power-up-stop}
 use Rattle.protocol.specs.Journal.{Journal, stores-of}
 
 -- ---- rings of 3 pages with 2 slots
@@ -135,21 +135,34 @@ out-of-range restarts packet = wrong (session-wrong Longer (session restarts pac
 abbrev saves : (heard restarts packet : ℕ) → Value
 saves heard restarts packet = numbers (save-restarts Longer heard packet restarts) (larger packet heard)
 
--- ---- the bounds of document 02, A.5
+-- ---- the bounds of document 02, A.5, and those of the firmware before it
 
 -- n bytes, of which only the number counts
 unfoldable pub zeros : ℕ → List ℕ
 zeros n = replicate n 0
 
--- stop 2 of a FRAM image, and stop 4 of a part and of a state buffer, of so many bytes
-abbrev image : Firmware → ℕ → Value
-image firmware n = wrong (fram-wrong (firmware .largest-fram) (zeros n))
+-- a first save with a blank ring, a FRAM of n bytes and parts of so many
+abbrev saves-parts : Firmware → (n open-part secret : ℕ) → Value
+saves-parts firmware n open-part secret = stops (first-save-stop firmware M1 (zeros n) (record {
+  arguments = record {
+    sizes = sizes 3 2;
+    key = key;
+    nonce = replicate nonce-length 0;
+    packet = 0;
+    open-part = zeros open-part;
+    secret = zeros secret;
+    staging = zeros n;
+  };
+  starting-tag = replicate tag-length 0;
+}))
 
-abbrev a-part : Firmware → ℕ → Value
-a-part firmware n = wrong (part-wrong (firmware .longest-part) (zeros n))
+-- a power-up with a blank ring, a FRAM of 96 bytes and a state buffer of n
+abbrev powers-up : Firmware → ℕ → Value
+powers-up firmware n = stops (power-up-stop firmware M1 (zeros 96) (record { sizes = sizes 3 2; key = key; nonce = replicate nonce-length 0; staging = zeros 96; state = zeros n }))
 
-abbrev state-buffer : Firmware → ℕ → Value
-state-buffer firmware n = wrong (state-wrong firmware (zeros n))
+-- whether a head that tells of a secret part of n words, in a half that has room for it, is wrong (stop 11)
+abbrev reads-secret : Firmware → ℕ → Value
+reads-secret firmware n = wrong (not (good-head (firmware .longest-part) Longer (words (head-words Longer 0 0 n 0) ++ zeros 40000)))
 
 -- what the definitions give, and what the papers say
 abbrev pub table : List (Value × Value)
@@ -191,19 +204,24 @@ table =
     (saves 6 5 7, numbers 5 7) ∷
     (saves 7 5 7, numbers 5 7) ∷
     (saves 8 5 7, numbers 0 8) ∷
-    (image this-firmware 262144, wrong false) ∷
-    (image this-firmware 262152, wrong true) ∷
-    (a-part this-firmware 32768, wrong false) ∷
-    (a-part this-firmware 32769, wrong true) ∷
-    (a-part this-firmware 32772, wrong true) ∷
-    (state-buffer this-firmware 32767, wrong true) ∷
-    (state-buffer this-firmware 32768, wrong false) ∷
-    (image packet-firmware 131072, wrong false) ∷
-    (image packet-firmware 131080, wrong true) ∷
-    (a-part first-firmware 4096, wrong false) ∷
-    (a-part first-firmware 4100, wrong true) ∷
-    (state-buffer packet-firmware 4095, wrong true) ∷
-    (state-buffer first-firmware 4096, wrong false) ∷ []
+    (saves-parts this-firmware 262144 32768 32768, stops none) ∷
+    (saves-parts this-firmware 262152 0 0, stops (some 2)) ∷
+    (saves-parts this-firmware 262144 32772 0, stops (some 4)) ∷
+    (saves-parts this-firmware 262144 0 32772, stops (some 4)) ∷
+    (powers-up this-firmware 32768, stops (some 6)) ∷
+    (powers-up this-firmware 32767, stops (some 4)) ∷
+    (reads-secret this-firmware 8192, wrong false) ∷
+    (reads-secret this-firmware 8193, wrong true) ∷
+    (saves-parts packet-firmware 131072 4096 4096, stops none) ∷
+    (saves-parts packet-firmware 131080 0 0, stops (some 2)) ∷
+    (saves-parts packet-firmware 131072 4100 0, stops (some 4)) ∷
+    (saves-parts packet-firmware 131072 0 4100, stops (some 4)) ∷
+    (saves-parts packet-firmware 88 0 0, stops (some 4)) ∷
+    (powers-up packet-firmware 4096, stops (some 6)) ∷
+    (powers-up packet-firmware 4095, stops (some 4)) ∷
+    (reads-secret packet-firmware 1024, wrong false) ∷
+    (reads-secret packet-firmware 1025, wrong true) ∷
+    (saves-parts first-firmware 88 0 0, stops none) ∷ []
 
 unfoldable pub Values : Type 0
 Values = map (λ v. v .0) table ≡ map (λ v. v .1) table

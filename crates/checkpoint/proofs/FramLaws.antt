@@ -20,7 +20,7 @@ pub record Image (fram : List ℕ) : Type 0 where
   pub low : fram-least ≤ length fram
   pub whole : length fram % fram-step ≡ 0
 
--- what passes stop 2 is one, and not longer than the limit
+-- what passes stop 2 is one
 pub an-image : (limit : ℕ) (fram : List ℕ) → fram-wrong limit fram ≡ false → Image fram
 unfolding fram-wrong
 an-image limit fram e =
@@ -28,6 +28,7 @@ an-image limit fram e =
     let b = neither _ _ (a .0) in
     record { low = ltb-false _ _ (b .0); whole = eqb-true _ _ (not-false _ (a .1)) }
 
+-- and not longer than the limit
 pub fram-small : (limit : ℕ) (fram : List ℕ) → fram-wrong limit fram ≡ false → length fram ≤ limit
 unfolding fram-wrong
 fram-small limit fram e =

@@ -5,14 +5,12 @@ use mathlib.Core.Option.{Option, none, some}
 use mathlib.Core.List.{List, [], _∷_}
 use lib.Dec.{eqb}
 use lib.ListN.{length}
-use Rattle.octets.specs.Limits.{fram-limit}
 use Rattle.octets.specs.Octets.{put}
 use Rattle.stops.specs.Stops.{first-of, then-stop}
 use Rattle.gcm.specs.Gcm.{encrypted, tag}
 use Rattle.gcm.specs.Calls.{key-wrong, nonce-wrong, tag-wrong, buffers-wrong}
 use Rattle.ring.specs.Ring.{ring-wrong}
 use Rattle.checkpoint.specs.Fram.{fram-wrong}
-use Rattle.checkpoint.specs.Checkpoint.{Longer}
 use Rattle.protocol.specs.Types.{Session, Stretch, Looked, Restarts, Unseen, Progress, GoingOn, Saved, Restored, Refused, this-firmware}
 use Rattle.protocol.specs.Calls.{Sizes, SaveArguments, FirstSave, Saves, PowersUp, Looks, Advances}
 use Rattle.protocol.specs.Operations.{Begin, Moved, staging-wrong, first-save-stop, first-save, save-stop, save, power-up-stop, power-up, look, open-stretch, job-wrong, advance}

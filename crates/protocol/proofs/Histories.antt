@@ -30,7 +30,7 @@ use Rattle.protocol.specs.Operations.{key-wrong, nonce-wrong, staging-wr
 use Rattle.protocol.specs.Journal.{entered, dropped, drafted, stores-of, power-up-draft, empty}
 use Rattle.protocol.specs.History.{State, fresh, left-by, step, run, Succeeds, Keeps, Allowed}
 use Rattle.protocol.specs.Recovery.{Fits, Last}
-use Rattle.protocol.specs.Histories.{smallest, bench-state, but-the-last, interrupted, interrupted-unit, Interrupted, Examples, to-its-end, staging-room, state-room, numbered-first, numbered-save, numbered-power-up, with-session, saves-on, power-ups-on, history, Reachable, repeats-on, repeats, StaleRepeats, newer, NewerPacket, updating, Updates, bench-fram, UpdatedInErase, OutgrownExample}
+use Rattle.protocol.specs.Histories.{smallest, bench-state, but-the-last, interrupted, interrupted-unit, Interrupted, Examples, to-its-end, staging-room, state-room, numbered-first, numbered-save, numbered-power-up, with-session, saves-on, power-ups-on, history, Reachable, repeats-on, repeats, StaleRepeats, newer, NewerPacket, InOrder, updating, Updates, bench-fram, UpdatedInErase, OutgrownExample}
 use Rattle.protocol.proofs.Facts.{no-fact}
 use Rattle.protocol.proofs.Invariant.{half-of, session-in, Holds, Ended}
 use Rattle.protocol.proofs.Reading.{reads, record-found, new-nonce}
@@ -580,6 +580,10 @@ newer-packet u firmware longer ring fram b f enough k few =
     )
 
 -- ---- an update
+
+pub in-order : InOrder
+unfolding InOrder
+in-order = (record { heads = tt; parts = lit≤ tt }, record { heads = tt; parts = lit≤ tt })
 
 -- what stands before it stands after it, where the next firmware takes the FRAM and halves have room for its form
 updated-standing : (u : Setup) (s : State) (next : Firmware) (n k : ℕ) → Standing u s n k → Succeeds (s .firmware) next

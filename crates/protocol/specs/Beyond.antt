@@ -14,9 +14,9 @@ use Rattle.checkpoint.specs.Fram.{fram-wrong}
 use Rattle.checkpoint.specs.Checkpoint.{Checkpoint, sealed}
 use Rattle.checkpoint.specs.Half.{read-as, Reads, open-length, secret-length}
 use Rattle.checkpoint.specs.Layout.{InRange}
-use Rattle.protocol.specs.Types.{Firmware, Stretch}
+use Rattle.protocol.specs.Types.{Firmware}
 use Rattle.protocol.specs.Calls.{Sizes, FirstSave, PowersUp, Looks, Setup, Event, first-saved}
-use Rattle.protocol.specs.Operations.{key-wrong, nonce-wrong, newest-in, newest-half, staging-wrong, state-wrong, first-checkpoint, first-save-stop, power-up-stop, power-up, look-stop, look-by, look, stretch-by, open-stretch}
+use Rattle.protocol.specs.Operations.{key-wrong, nonce-wrong, newest-in, newest-half, staging-wrong, state-wrong, first-checkpoint, first-save-stop, power-up, look-by, look, stretch-by, open-stretch}
 use Rattle.protocol.specs.History.{fresh, run, Allowed}
 use Rattle.protocol.specs.Recovery.{Started, Fits}
 use Rattle.protocol.specs.Histories.{to-its-end}
