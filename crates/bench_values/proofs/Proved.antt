@@ -27,4 +27,4 @@ zeros-long n = length-replicate {A = ℕ} n 0
 
 pub values : Values
 unfolding Values read-ring reading used-from alone followed filled records is-record half-named next-page page-at target-page target-slot blank part number word-at kind-of value-of sub-byte inverse affine turned power times xtime _•_ stores-of erase-if first-save-stop power-up-stop good-head kinds-from kind-at value-at open-length secret-length stored-restarts stored-length words word bytes first-of ring-wrong fram-wrong half-length parts-wrong state-wrong part-wrong staging-wrong packet-wrong session-wrong save-restarts larger
-values = rw (older-long, longer-long, zeros-long 262144, zeros-long 32768, zeros-long 262152, zeros-long 32772, zeros-long 0, zeros-long 96, zeros-long 32767, zeros-long 40000, zeros-long 131072, zeros-long 4096, zeros-long 131080, zeros-long 4100, zeros-long 88, zeros-long 4095)
+values = rw (older-long, longer-long, zeros-long 262144, zeros-long 32768, zeros-long 262152, zeros-long 32769, zeros-long 32772, zeros-long 0, zeros-long 96, zeros-long 32767, zeros-long 40000, zeros-long 131072, zeros-long 4096, zeros-long 131080, zeros-long 4097, zeros-long 4100, zeros-long 88, zeros-long 4095)

@@ -206,6 +206,7 @@ table =
     (saves 8 5 7, numbers 0 8) ∷
     (saves-parts this-firmware 262144 32768 32768, stops none) ∷
     (saves-parts this-firmware 262152 0 0, stops (some 2)) ∷
+    (saves-parts this-firmware 262144 32769 0, stops (some 4)) ∷
     (saves-parts this-firmware 262144 32772 0, stops (some 4)) ∷
     (saves-parts this-firmware 262144 0 32772, stops (some 4)) ∷
     (powers-up this-firmware 32768, stops (some 6)) ∷
@@ -214,6 +215,7 @@ table =
     (reads-secret this-firmware 8193, wrong true) ∷
     (saves-parts packet-firmware 131072 4096 4096, stops none) ∷
     (saves-parts packet-firmware 131080 0 0, stops (some 2)) ∷
+    (saves-parts packet-firmware 131072 4097 0, stops (some 4)) ∷
     (saves-parts packet-firmware 131072 4100 0, stops (some 4)) ∷
     (saves-parts packet-firmware 131072 0 4100, stops (some 4)) ∷
     (saves-parts packet-firmware 88 0 0, stops (some 4)) ∷

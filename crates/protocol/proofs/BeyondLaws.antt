@@ -4,21 +4,17 @@ use mathlib.Core.Path.{_≡_, refl, sym, ap, subst, _∙_}
 use mathlib.Core.Bool.{Bool, true, false, not, cond}
 use mathlib.Core.Logic.{inl, inr}
 use mathlib.Core.Option.{Option, none, some}
-use mathlib.Core.List.{List, [], _∷_, _++_, List·Memᴰ, List·Memᴰ·not-nil}
-use borrow.Author.Tests.{not-false}
-use Rattle.octets.specs.Octets.{put}
+use mathlib.Core.List.{List, [], _∷_, _++_}
 use Rattle.stops.specs.Stops.{first-of}
-use Rattle.stops.proofs.Laws.{passes}
 use Rattle.ring.specs.Ring.{Newest}
 use Rattle.checkpoint.specs.Checkpoint.{Form, Checkpoint, sealed}
 use Rattle.checkpoint.specs.Half.{read-as, open-length, secret-length, good-head}
 use Rattle.checkpoint.proofs.FramLaws.{an-image}
 use Rattle.checkpoint.proofs.HalfLaws.{read-as-is, open-length-is, secret-length-is, head-refused, unread-refused}
-use Rattle.protocol.specs.Types.{Firmware, Save, Words}
+use Rattle.protocol.specs.Types.{Firmware}
 use Rattle.protocol.specs.Calls.{Sizes, FirstSave, PowersUp, Looks, Setup, first-saved, powered-up}
-use Rattle.protocol.specs.Operations.{newest-in, newest-half, job-of, first-checkpoint, first-save-stop, power-up-stop, power-up, look-stop, look-by, look, stretch-by, open-stretch}
-use Rattle.protocol.specs.Journal.{drafted}
-use Rattle.protocol.specs.History.{State, fresh, run, Keeps, Allowed}
+use Rattle.protocol.specs.Operations.{newest-in, newest-half, first-checkpoint, first-save-stop, power-up-stop, power-up, look-stop, look-by, look, stretch-by, open-stretch}
+use Rattle.protocol.specs.History.{State, fresh, run, Allowed}
 use Rattle.protocol.specs.Recovery.{Started, Exact}
 use Rattle.protocol.specs.Histories.{to-its-end}
 use Rattle.protocol.specs.Beyond.{Beyond, Held, power-up-at-11, look-at-11, PowerUpRefused, LookRefused, LengthsWhole, BeyondRefused, BeyondAfter, FirstSaveRecorded}
@@ -26,10 +22,11 @@ use Rattle.protocol.proofs.Exact.{exact}
 use Rattle.protocol.proofs.Invariant.{Holds}
 use Rattle.protocol.proofs.Reading.{reads, behind, newest-half-is}
 use Rattle.protocol.proofs.Starts.{same-arguments}
-use Rattle.protocol.proofs.FirstSaves.{first-call, first-begun, first-step}
+use Rattle.protocol.proofs.FirstSaves.{first-call}
 use Rattle.protocol.proofs.PowerUps.{Entry}
 use Rattle.protocol.proofs.Lists.{hold-run, hold-fresh}
-use Rattle.protocol.proofs.Runs.{whole, recorded-entry}
+use Rattle.protocol.proofs.Runs.{recorded-entry}
+use Rattle.protocol.proofs.Histories.{first-save-whole}
 
 -- a condition that holds ends the list
 ends-there : (xs ys : List (ℕ × Bool)) (n : ℕ) (b : Bool) → b ≡ true → first-of (xs ++ (n, b) ∷ ys) ≡ first-of (xs ++ (n, true) ∷ [])
@@ -122,18 +119,7 @@ beyond-after u firmware fitting ring fram b f events k c e older beyond =
 made : (u : Setup) (firmware : Firmware) (ring fram : List ℕ) (a : FirstSave) → first-save-stop firmware ring fram (first-call u a) ≡ none
     → let events = to-its-end u (fresh firmware ring fram) (first-saved (first-call u a)) in
     Allowed u (fresh firmware ring fram) events × (run u (fresh firmware ring fram) events .journal .entry ≡ some (first-checkpoint (firmware .form) (first-call u a)))
-unfolding drafted first-checkpoint Keeps fresh first-save-stop
-made u firmware ring fram a e =
-    let s : State = fresh firmware ring fram in
-    let c : Checkpoint = first-checkpoint (firmware .form) (first-call u a) in
-    let z = passes _ e in
-    let inv = hold-fresh u firmware ring fram (z .0) (an-image (firmware .largest-fram) fram (z .1 .0)) (not-false _ (z .1 .1 .1 .1 .1 .0)) in
-    let unused : List·Memᴰ (a .arguments .nonce) (s .nonces) → ⊥ = λ m. absurd (List·Memᴰ·not-nil m) in
-    let is = first-step u s inv a unused e in
-    let w = whole u s (first-saved (first-call u a)) c Save (a .arguments .nonce) (record { job = job-of (u .key) c (Words 0) Save 0 0 0; staging = put (a .arguments .staging) 0 (sealed (u .key) c) })
-    (refl, refl, unused) (subst (λ (y : State). Holds u y) (sym is) (first-begun u s inv a unused e))
-    (ap (λ (y : State). y .handed) is) (ap (λ (y : State). y .journal .draft) is) (ap (λ (y : State). y .journal .count) is) (ap (λ (y : State). y .nonces) is) (ap (λ (y : State). y .firmware) is) (ap (λ (y : State). y .fram) is) in
-    (w .passed .allowed, w .ended .entry)
+made u firmware ring fram a e = let w = first-save-whole u firmware ring fram a e in (w .passed .allowed, w .ended .entry)
 
 pub first-save-recorded : FirstSaveRecorded
 unfolding FirstSaveRecorded

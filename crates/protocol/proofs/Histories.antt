@@ -9,12 +9,13 @@ use native.Mathlib.Nat.{add-zero}
 use native.Mathlib.Omega.{arith}
 use lib.ListN.{replicate, length, length-replicate}
 use lib.Dec.{lit<, lit≤, eqb, ltb}
-use borrow.Author.Tests.{eq-eqb, le-ltb}
+use borrow.Author.Tests.{eq-eqb, le-ltb, not-false}
 use Rattle.octets.specs.Limits.{pages-least, slots-least, slot-length, restart-limit, packet-limit, key-length, nonce-length}
 use Rattle.octets.specs.Octets.{erased, blank, put, number, bytes}
 use Rattle.octets.proofs.Laws.{blank-erased}
 use Rattle.octets.proofs.Numbers.{length-bytes, number-bytes}
 use Rattle.stops.specs.Stops.{first-of}
+use Rattle.stops.proofs.Laws.{passes}
 use Rattle.ring.proofs.StoreLaws.{is-newest}
 use Rattle.ring.specs.Ring.{ring-wrong, At, AtPending, page-before, read-ring, record-of, newest-record, not-newest}
 use Rattle.ring.proofs.RingLaws.{page-of, slot-of}
@@ -34,7 +35,7 @@ use Rattle.protocol.specs.Histories.{smallest, bench-state, but-the-last
 use Rattle.protocol.proofs.Facts.{no-fact}
 use Rattle.protocol.proofs.Invariant.{half-of, session-in, Holds, Ended}
 use Rattle.protocol.proofs.Reading.{reads, record-found, new-nonce}
-use Rattle.protocol.proofs.FirstSaves.{first-begun, first-step}
+use Rattle.protocol.proofs.FirstSaves.{first-call, first-begun, first-step}
 use Rattle.protocol.proofs.Saves.{saving-job, save-begun, save-step}
 use Rattle.protocol.proofs.PowerUps.{Entry, resuming-job, resuming-holds, step-is}
 use Rattle.protocol.proofs.Lists.{hold-fresh}
@@ -146,30 +147,27 @@ after-whole u s n c events w e b h z o p fr l q = record {
   made-in = q ∙ sym (ap (λ (x : Firmware). x .form) (w .passed .firmware));
 }
 
+-- a first save that does not stop
+pub first-save-whole : (u : Setup) (firmware : Firmware) (ring fram : List ℕ) (a : FirstSave) → first-save-stop firmware ring fram (first-call u a) ≡ none
+    → Whole u (fresh firmware ring fram) (first-checkpoint (firmware .form) (first-call u a)) (a .arguments .nonce) (to-its-end u (fresh firmware ring fram) (first-saved (first-call u a)))
+unfolding drafted first-checkpoint Keeps fresh first-save-stop
+first-save-whole u firmware ring fram a e =
+    let s : State = fresh firmware ring fram in
+    let c : Checkpoint = first-checkpoint (firmware .form) (first-call u a) in
+    let p = passes _ e in
+    let inv = hold-fresh u firmware ring fram (p .0) (an-image (firmware .largest-fram) fram (p .1 .0)) (not-false _ (p .1 .1 .1 .1 .1 .0)) in
+    let unused : List·Memᴰ (a .arguments .nonce) (s .nonces) → ⊥ = λ m. absurd (List·Memᴰ·not-nil m) in
+    let is = first-step u s inv a unused e in
+    whole u s (first-saved (first-call u a)) c Save (a .arguments .nonce) (record { job = job-of (u .key) c (Words 0) Save 0 0 0; staging = put (a .arguments .staging) 0 (sealed (u .key) c) })
+    (refl, refl, unused) (subst (λ (y : State). Holds u y) (sym is) (first-begun u s inv a unused e))
+    (ap (λ (y : State). y .handed) is) (ap (λ (y : State). y .journal .draft) is) (ap (λ (y : State). y .journal .count) is) (ap (λ (y : State). y .nonces) is) (ap (λ (y : State). y .firmware) is) (ap (λ (y : State). y .fram) is)
+
 module _ (u : Setup) (firmware : Firmware) (ring fram : List ℕ) (b : blank ring ≡ true) (f : Fits u firmware ring fram) (l : empty-length (firmware .form) ≤ half-length fram) where
   abbrev start : State
   start = fresh firmware ring fram
 
-  inv : Holds u start
-  inv = hold-fresh u firmware ring fram (f .ring-right) (an-image (firmware .largest-fram) fram (f .fram-right)) b
-
-  unused : List·Memᴰ (bytes nonce-length 0) (start .nonces) → ⊥
-  unfolding fresh
-  unused m = absurd (List·Memᴰ·not-nil m)
-
-  passes : first-save-stop (start .firmware) (start .ring) (start .fram) (numbered-first u firmware 0) ≡ none
-  unfolding fresh
-  passes = first-passes u firmware ring fram b f l 0
-
   first-whole : Whole u start (first-checkpoint (firmware .form) (numbered-first u firmware 0)) (bytes nonce-length 0) (to-its-end u start (first-saved (numbered-first u firmware 0)))
-  unfolding drafted first-checkpoint Keeps fresh
-  first-whole =
-      let a : FirstSave = numbered-first u firmware 0 in
-      let c : Checkpoint = first-checkpoint (firmware .form) a in
-      let is = first-step u start inv a unused passes in
-      whole u start (first-saved a) c Save (bytes nonce-length 0) (record { job = job-of (u .key) c (Words 0) Save 0 0 0; staging = put (staging-room firmware) 0 (sealed (u .key) c) })
-      (refl, refl, unused) (subst (λ (y : State). Holds u y) (sym is) (first-begun u start inv a unused passes))
-      (ap (λ (y : State). y .handed) is) (ap (λ (y : State). y .journal .draft) is) (ap (λ (y : State). y .journal .count) is) (ap (λ (y : State). y .nonces) is) (ap (λ (y : State). y .firmware) is) (ap (λ (y : State). y .fram) is)
+  first-whole = first-save-whole u firmware ring fram (numbered-first u firmware 0) (first-passes u firmware ring fram b f l 0)
 
   first-after : After u (run u start (to-its-end u start (first-saved (numbered-first u firmware 0)))) 1 0
   unfolding fresh empty first-checkpoint
