@@ -40,8 +40,8 @@
  *
  * The answers
  * keeper_wipe answers nothing; keeper_advance answers 256 and up or a stop; every other call answers 0 or a stop. A stop changes nothing in
- * the caller's memory. The lowest number that applies is given, but 18 right after 4, and a power-up's 4 for a checkpoint that does not fit
- * its half in the longer form after 13; of a text, the lowest that applies to its first bad line.
+ * the caller's memory. The lowest number that applies is given, but 18 right after 4; at power-up 10 after 13, and after 10 the 4 for a
+ * checkpoint that does not fit its half in the longer form; of a text, the lowest that applies to its first bad line.
  *
  * Not proved: time (the costs below are those of the source), and what is left on the stack. Run under memcheck (hosts/constant_time), the
  * calls make no jump and use no address that depends on key, tags, parts or sealed text, but for AES's look-ups in its tables and one jump on
@@ -64,7 +64,7 @@ enum keeper_answer {
     KEEPER_KEY_NONCE_TAG_SIZE = 3,  /* key not 32, nonce not 12 or tag not 16 bytes */
     KEEPER_BUFFER_SIZE = 4,         /* a part not a multiple of 4 bytes, above 32,768, or the checkpoint longer than a half; staging, state,
                                        output or a text buffer too short; a session buffer to be written not 48 bytes; text or associated data
-                                       above 65,536; power-up, after 13: a checkpoint of the older form does not fit its half in the
+                                       above 65,536; power-up, last: a checkpoint of the older form does not fit its half in the
                                        longer one */
     KEEPER_RING_IN_USE = 5,         /* first save: the ring is not blank */
     KEEPER_RING_BLANK = 6,          /* the ring is wholly blank: a new unit, or an erased flash */
@@ -73,7 +73,8 @@ enum keeper_answer {
                                        above KEEPER_LARGEST_PACKET, or its buffer is not 48 bytes: finish the job that is under way, or
                                        power up */
     KEEPER_PAGE_PENDING = 9,        /* save: a page awaits erasing; power up */
-    KEEPER_NONCE_USED = 10,         /* the nonce equals one in a record of the newest page: call again with a new one */
+    KEEPER_NONCE_USED = 10,         /* the nonce equals one in a record of the newest page: call again with a new one; power-up: after 13,
+                                       so that a unit which must not go on says so whatever its nonce */
     KEEPER_BAD_HEAD = 11,           /* a word of the newest checkpoint's head is wrong, or the checkpoint is longer than the half */
     KEEPER_TAG_DIFFERS = 12,        /* the tag of the newest checkpoint, or the one given to keeper_open, differs: other bytes, key or nonce */
     KEEPER_RESTART_LIMIT = 13,      /* 8 restarts, and no save between that brought a newer packet number */
@@ -159,11 +160,11 @@ uint32_t keeper_save(size_t pages, size_t slots, const uint8_t *ring, size_t rin
  * their contents) and its length into *secret_len, seals both parts anew, with one restart more and the same packet number, into staging, and
  * writes the job that stores it. `state` then holds plaintext; it may be used once keeper_advance has answered KEEPER_RESTORED, and is the
  * caller's to wipe. A checkpoint of the older form has packet number 0 and is sealed anew in the longer form, 4 bytes longer; where that does
- * not fit the half, the power-up gives 4 after 13.
- * On 6 make a first save; on 10 call again with a new nonce; on any other stop sound the alert. After 7, 11, 12, 13 and that 4 only erasing
- * the whole ring and a first save go on, and the state is lost.
- * Stops: 1 to 4, 6, 7, 10 to 13, 4 again, 14 (the job buffer is not 64 bytes). Cost: one reading of the ring; the checkpoint is hashed once,
- * decrypted once and sealed once.
+ * not fit the half, the power-up gives 4 after 10.
+ * On 6 make a first save; on 10 call again with a new nonce, a few times at most; on any other stop sound the alert. After 7, 11, 12, 13 and
+ * that 4 only erasing the whole ring and a first save go on, and the state is lost.
+ * Stops: 1 to 4, 6, 7, 11 to 13, 10, 4 again, 14 (the job buffer is not 64 bytes). Cost: one reading of the ring; the checkpoint is hashed
+ * once, decrypted once and sealed once.
  */
 uint32_t keeper_power_up(size_t pages, size_t slots, const uint8_t *ring, size_t ring_len,
                      const uint8_t *fram, size_t fram_len, const uint8_t *key, size_t key_len,

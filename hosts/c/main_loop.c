@@ -21,17 +21,19 @@ enum {
     PAGE = SLOTS * KEEPER_SLOT_SIZE,
     HALF = 64,
     CHECKPOINT = 48 + sizeof(struct state),
-    STORES = CHECKPOINT / 4 + 1 /* its words and the record, where nothing is to be erased */
+    STORES = CHECKPOINT / 4 + 1, /* its words and the record, where nothing is to be erased */
+    NONCES = 4 /* so many used nonces in a row are the source's fault, and the alert sounds */
 };
 _Static_assert(CHECKPOINT <= HALF, "the checkpoint fits a half");
 
 /* ---- the board */
 
-/* What outlives a restart: flash, FRAM, and the source of fresh bytes. */
+/* What outlives a restart: flash, FRAM, and the source of fresh bytes, which may be stuck. */
 static struct {
     uint8_t ring[PAGES * PAGE];
     uint8_t fram[2 * HALF];
     uint32_t drawn;
+    bool stuck;
 } chips;
 
 /* What the nursery unit sends: the number of its last packet, and whether it sends that one again or a newer one. */
@@ -63,7 +65,7 @@ static void device_key(uint8_t key[KEEPER_KEY_SIZE]) { memset(key, 0x42, KEEPER_
  */
 static void fresh_bytes(uint8_t *bytes, size_t n) {
     memset(bytes, 0, n);
-    chips.drawn++;
+    if (!chips.stuck) chips.drawn++;
     for (size_t i = 0; i < 4; i++) bytes[n - 1 - i] = (uint8_t)(chips.drawn >> (8 * i));
 }
 
@@ -97,6 +99,7 @@ static void make_durable(const uint8_t *job) {
 static uint32_t begin(void) {
     uint8_t key[KEEPER_KEY_SIZE], nonce[KEEPER_NONCE_SIZE], starting_tag[KEEPER_TAG_SIZE];
     uint32_t r;
+    int nonces = 0;
     memcpy(ram.ring, chips.ring, sizeof ram.ring);
     memcpy(ram.fram, chips.fram, sizeof ram.fram);
     device_key(key);
@@ -104,7 +107,7 @@ static uint32_t begin(void) {
         fresh_bytes(nonce, sizeof nonce);
         r = keeper_power_up(PAGES, SLOTS, ram.ring, sizeof ram.ring, ram.fram, sizeof ram.fram, key, sizeof key, nonce, sizeof nonce,
                             ram.staging, sizeof ram.staging, ram.opened, sizeof ram.opened, ram.job, sizeof ram.job, &ram.opened_len);
-    } while (r == KEEPER_NONCE_USED);
+    } while (r == KEEPER_NONCE_USED && ++nonces < NONCES);
     if (r == KEEPER_RING_BLANK) {
         puts("  first save");
         memset(&ram.state, 0, sizeof ram.state);
@@ -123,13 +126,14 @@ static uint32_t begin(void) {
 static uint32_t save(void) {
     uint8_t key[KEEPER_KEY_SIZE], nonce[KEEPER_NONCE_SIZE];
     uint32_t r;
+    int nonces = 0;
     device_key(key);
     do {
         fresh_bytes(nonce, sizeof nonce);
         r = keeper_save(PAGES, SLOTS, ram.ring, sizeof ram.ring, ram.fram, sizeof ram.fram, key, sizeof key, nonce, sizeof nonce,
                         ram.session, sizeof ram.session, ram.heard, ram.state.volume, sizeof ram.state.volume, ram.state.timer,
                         sizeof ram.state.timer, ram.staging, sizeof ram.staging, ram.job, sizeof ram.job);
-    } while (r == KEEPER_NONCE_USED);
+    } while (r == KEEPER_NONCE_USED && ++nonces < NONCES);
     keeper_wipe(key, sizeof key);
     ram.storing = r == KEEPER_DONE;
     ram.changed = false;
@@ -230,6 +234,10 @@ int main(void) {
         printf("restart %d, and a save after a repeated packet\n", restart);
         if (run(100, 1) != KEEPER_DONE) return 1;
     }
-    puts("restart 9");
+    chips.stuck = true;
+    puts("restart 9, with the nonce of the last save again");
+    if (run(2 * STORES, 0) != KEEPER_RESTART_LIMIT) return 1;
+    chips.stuck = false;
+    puts("restart 10, with a new nonce");
     return run(2 * STORES, 0) == KEEPER_RESTART_LIMIT ? 0 : 1;
 }

@@ -1,5 +1,5 @@
 -- Document 01's bench values M1 to M13 (its section "Bench values"), as one statement over one list: what the definitions give, beside what document 01 says;
--- M13 for both forms of a head, document 01's and document 02's (A.2); and the bounds of A.2 and A.5.
+-- M13 for both forms of a head, document 01's and document 02's (A.2); the bounds of A.2 and A.5, and the order of A.6.
 use Prim.Native.Nat.{ℕ, _/_}
 use mathlib.Core.Path.{_≡_}
 use mathlib.Core.Bool.{Bool, true, false, not}
@@ -12,7 +12,7 @@ use Rattle.sbox.specs.Field.{xtime, sub-byte}
 use Rattle.ring.specs.Ring.{Newest, Blank, Unreadable, At, AtPending, is-record, half-named, read-ring, target-page, target-slot}
 use Rattle.checkpoint.specs.Checkpoint.{Form, Older, Longer, Checkpoint, head-words, words, sealed}
 use Rattle.checkpoint.specs.Half.{good-head}
-use Rattle.protocol.specs.Types.{Firmware, first-firmware, packet-firmware, this-firmware, Session}
+use Rattle.protocol.specs.Types.{Firmware, first-firmware, packet-firmware, larger-firmware, this-firmware, Session}
 use Rattle.protocol.specs.Calls.{sizes}
 use Rattle.protocol.specs.Operations.{session-wrong, save-restarts, larger, first-save-stop, power-up-stop}
 use Rattle.protocol.specs.Journal.{Journal, stores-of}
@@ -223,7 +223,30 @@ table =
     (powers-up packet-firmware 4095, stops (some 4)) ∷
     (reads-secret packet-firmware 1024, wrong false) ∷
     (reads-secret packet-firmware 1025, wrong true) ∷
-    (saves-parts first-firmware 88 0 0, stops none) ∷ []
+    (saves-parts first-firmware 88 0 0, stops none) ∷
+    (saves-parts larger-firmware 262144 32768 32768, stops none) ∷
+    (saves-parts larger-firmware 262152 0 0, stops (some 2)) ∷
+    (saves-parts larger-firmware 262144 32772 0, stops (some 4)) ∷
+    (powers-up larger-firmware 32767, stops (some 4)) ∷ []
+
+-- ---- the order of document 02, A.6, and that before it
+
+-- a power-up on M2, where R's nonce is of zeros, with a nonce of bytes b; FRAM bytes of zeros have no head (stop 11)
+abbrev powers-up-with : Firmware → ℕ → Value
+powers-up-with firmware b =
+    stops (power-up-stop firmware M2 (replicate 96 0) (record { sizes = sizes 3 2; key = key; nonce = replicate nonce-length b; staging = zeros 96; state = zeros 32768 }))
+
+abbrev pub orders : List (Value × Value)
+orders =
+    (powers-up-with first-firmware 0, stops (some 10)) ∷
+    (powers-up-with packet-firmware 0, stops (some 10)) ∷
+    (powers-up-with larger-firmware 0, stops (some 10)) ∷
+    (powers-up-with this-firmware 0, stops (some 11)) ∷
+    (powers-up-with larger-firmware 1, stops (some 11)) ∷
+    (powers-up-with this-firmware 1, stops (some 11)) ∷ []
+
+abbrev pub Agree : List (Value × Value) → Type 0
+Agree rows = map (λ v. v .0) rows ≡ map (λ v. v .1) rows
 
 unfoldable pub Values : Type 0
-Values = map (λ v. v .0) table ≡ map (λ v. v .1) table
+Values = Agree table × Agree orders

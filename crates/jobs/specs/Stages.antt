@@ -3,9 +3,9 @@ use Prim.Native.Nat.{ℕ}
 use mathlib.Core.Bool.{Bool, _||_}
 use mathlib.Core.List.{List, [], _∷_, _++_}
 use lib.ListN.{length}
-use Rattle.ring.specs.Ring.{Newest, is-blank, is-unreadable, is-pending, nonce-used}
+use Rattle.ring.specs.Ring.{Newest, is-pending, nonce-used}
 use Rattle.checkpoint.specs.Checkpoint.{Longer}
-use Rattle.memories.specs.Stages.{of-memories}
+use Rattle.memories.specs.Stages.{of-memories, of-newest}
 use Rattle.protocol.specs.Types.{Session, Stopped, this-firmware}
 use Rattle.protocol.specs.Calls.{SaveArguments}
 use Rattle.protocol.specs.Operations.{Begin, no-job, key-wrong, nonce-wrong, parts-wrong, staging-wrong, packet-wrong, stale, session-wrong}
@@ -25,8 +25,7 @@ save-buffers ring fram a =
 -- those of save about the ring, which reads as n
 abbrev pub save-ring : (ring : List ℕ) → ℕ → Newest → Session → List ℕ → List (ℕ × Bool)
 save-ring ring slots n s nonce =
-    (6, is-blank n) ∷
-    (7, is-unreadable n) ∷
+    of-newest n ++ (
     (8, stale ring slots n s || session-wrong Longer s) ∷
     (9, is-pending n) ∷
-    (10, nonce-used ring slots n nonce) ∷ []
+    (10, nonce-used ring slots n nonce) ∷ [])

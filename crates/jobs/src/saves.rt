@@ -14,6 +14,7 @@ use gcm::key_wrong;
 use gcm::nonce_wrong;
 use gcm::tag_wrong;
 use memories::check_memories;
+use memories::check_newest;
 use octets::blank;
 use octets::limits::PACKET_LIMIT;
 use octets::limits::RESTART_LIMIT;
@@ -232,9 +233,7 @@ fn check_save_ring(
     );
     let stale = older | session.out_of_range();
     let used = nonce_used(ring, pages, slots, found, nonce);
-    Check::Pass
-        .stop_if(found.is_blank(), Stop::RingBlank)
-        .stop_if(found.is_unreadable(), Stop::RingUnreadable)
+    check_newest(found)
         .stop_if(stale, Stop::StaleSession)
         .stop_if(found.is_pending(), Stop::PagePending)
         .stop_if(used, Stop::NonceUsed)

@@ -1,6 +1,6 @@
 -- The stops of power-up, stage by stage, and what it answers. Assumes nothing.
 use Prim.Native.Nat.{ℕ, _-_, _<_, _≤_}
-use mathlib.Core.Path.{_≡_, sym, ap, _∙_}
+use mathlib.Core.Path.{_≡_, sym, _∙_}
 use mathlib.Core.Bool.{Bool, true, false, not, _||_}
 use mathlib.Core.Option.{Option, none, some}
 use mathlib.Core.List.{List, [], _∷_, _++_}
@@ -10,32 +10,27 @@ use lib.ListN.{length, take}
 use borrow.Author.Tests.{eqb-true, ltb-false, not-false}
 use Rattle.octets.specs.Limits.{key-length, nonce-length, part-limit, fram-limit}
 use Rattle.stops.specs.Stops.{first-of, then-stop}
-use Rattle.stops.proofs.Laws.{tried, tried-first, first-append, no-lines, one-more, passes, neither}
-use Rattle.ring.specs.Ring.{Newest, ring-wrong, read-ring, is-blank, is-unreadable, nonce-used, newest-record, half-named, target-page, target-slot}
+use Rattle.stops.proofs.Laws.{tried, tried-first, first-append, one-more, passes, neither}
+use Rattle.ring.specs.Ring.{Newest, ring-wrong, read-ring, nonce-used, newest-record, half-named, target-page, target-slot}
 use Rattle.ring.proofs.NewestLaws.{newest-half-fits}
 use Rattle.checkpoint.specs.Checkpoint.{Older, Longer, empty-length}
 use Rattle.checkpoint.specs.Fram.{fram-wrong, half-length}
-use Rattle.checkpoint.specs.Half.{form-of, good-head, stored}
+use Rattle.checkpoint.specs.Half.{form-of, good-head, good-tag, stored}
 use Rattle.checkpoint.proofs.FramLaws.{an-image}
-use Rattle.memories.specs.Stages.{of-memories}
+use Rattle.memories.specs.Stages.{of-memories, of-newest}
 use Rattle.protocol.specs.Types.{Phase, PowerUp, this-firmware}
 use Rattle.protocol.specs.Calls.{PowersUp}
-use Rattle.protocol.specs.Operations.{key-wrong, nonce-wrong, staging-wrong, state-wrong, Begin, begin, job-of, resumed, first-phase, newest-half, newest-checkpoint, power-up-stop, power-up}
+use Rattle.protocol.specs.Operations.{key-wrong, nonce-wrong, staging-wrong, state-wrong, Begin, begin, job-of, resumed, first-phase, newest-half, newest-checkpoint, half-lines, power-up-stop, power-up}
 use Rattle.jobs.specs.Stages.{stopped}
-use Rattle.keeper.specs.Stages.{power-up-buffers, power-up-ring, power-up-half, half-lines}
+use Rattle.keeper.specs.Stages.{power-up-buffers, power-up-half, opening-lines}
 
--- ---- conditions tried one after the other
+-- ---- the buffers' conditions tried one after the other
 
 pub buffers-tried : (ring fram : List ℕ) (a : PowersUp) (c d : Bool) (o₂ o₃ o₄ : Option ℕ)
     → o₂ ≡ first-of (of-memories (a .sizes .pages) (a .sizes .slots) ring fram)
     → c ≡ key-wrong (length (a .key)) || nonce-wrong (length (a .nonce)) → d ≡ staging-wrong (a .staging) fram || state-wrong this-firmware (a .state)
     → o₃ ≡ then-stop o₂ 3 c → o₄ ≡ then-stop o₃ 4 d → o₄ ≡ first-of (power-up-buffers ring fram a)
 buffers-tried ring fram a c d o₂ o₃ o₄ e x y f g = one-more (_ ∷ _ ∷ _ ∷ []) 4 _ d o₃ o₄ (one-more (_ ∷ _ ∷ []) 3 _ c o₂ o₃ e x f) y g
-
-pub ring-tried : (ring : List ℕ) (slots : ℕ) (n : Newest) (nonce : List ℕ) (b u x : Bool) (o₁ o₂ o₃ : Option ℕ) → b ≡ is-blank n → u ≡ is-unreadable n → x ≡ nonce-used ring slots n nonce
-    → o₁ ≡ then-stop none 6 b → o₂ ≡ then-stop o₁ 7 u → o₃ ≡ then-stop o₂ 10 x → o₃ ≡ first-of (power-up-ring ring slots n nonce)
-ring-tried ring slots n nonce b u x o₁ o₂ o₃ eb eu ex f g h =
-    one-more (_ ∷ _ ∷ []) 10 _ x o₂ o₃ (one-more (_ ∷ []) 7 _ u o₁ o₂ (one-more [] 6 _ b none o₁ no-lines eb f) eu g) ex h
 
 -- ---- what holds where the buffers pass
 
@@ -77,21 +72,24 @@ module _ (ring fram : List ℕ) (a : PowersUp) where
   abbrev latest : List ℕ
   latest = take nonce-length newest
 
+  abbrev used : Bool
+  used = nonce-used ring (a .sizes .slots) read (a .nonce)
+
   abbrev ring-lines : List (ℕ × Bool)
-  ring-lines = power-up-ring ring (a .sizes .slots) read (a .nonce)
+  ring-lines = of-newest read
 
   abbrev head-line : List (ℕ × Bool)
   head-line = (11, not (good-head part-limit (form-of half) half)) ∷ []
 
   abbrev rest-lines : List (ℕ × Bool)
-  rest-lines = half-lines (a .key) latest half
+  rest-lines = opening-lines half (good-tag (form-of half) (a .key) latest half) used
 
   pub buffers-stop : {s : ℕ} → first-of (power-up-buffers ring fram a) ≡ some s → power-up-stop this-firmware ring fram a ≡ some s
-  unfolding power-up-stop tried
+  unfolding half-lines power-up-stop tried
   buffers-stop e = first-append (power-up-buffers ring fram a) (ring-lines ++ (head-line ++ rest-lines)) e
 
   on-ring : first-of (power-up-buffers ring fram a) ≡ none → power-up-stop this-firmware ring fram a ≡ first-of (ring-lines ++ (head-line ++ rest-lines))
-  unfolding power-up-stop
+  unfolding half-lines power-up-stop
   on-ring e = first-append (power-up-buffers ring fram a) (ring-lines ++ (head-line ++ rest-lines)) e ∙ tried-first (ring-lines ++ (head-line ++ rest-lines))
 
   pub ring-stop : {s : ℕ} → first-of (power-up-buffers ring fram a) ≡ none → first-of ring-lines ≡ some s → power-up-stop this-firmware ring fram a ≡ some s
@@ -109,9 +107,9 @@ module _ (ring fram : List ℕ) (a : PowersUp) where
   unfolding first-of
   on-half e f g = on-head e f ∙ rw g
 
-  pub on-record : (rec : List ℕ) → rec ≡ newest → first-of (power-up-buffers ring fram a) ≡ none → first-of ring-lines ≡ none → power-up-stop this-firmware ring fram a ≡ first-of (power-up-half (a .key) rec fram)
+  pub on-record : (rec : List ℕ) (x : Bool) → rec ≡ newest → x ≡ used → first-of (power-up-buffers ring fram a) ≡ none → first-of ring-lines ≡ none → power-up-stop this-firmware ring fram a ≡ first-of (power-up-half (a .key) rec fram x)
   unfolding newest-half
-  on-record rec r e f = on-head e f ∙ ap (λ (l : List ℕ). first-of (power-up-half (a .key) l fram)) (sym r)
+  on-record rec x r y e f = on-head e f ∙ (λ i. first-of (power-up-half (a .key) (sym r i) fram (sym y i)))
 
   -- the newest record names a half
   pub names-half : ring-wrong (a .sizes .pages) (a .sizes .slots) ring ≡ false → first-of ring-lines ≡ none → half-named newest < 2
@@ -123,14 +121,14 @@ module _ (ring fram : List ℕ) (a : PowersUp) where
   unfolding power-up begin
   power-up-stops r e f = rw f e
 
-  pub power-up-restores : (r : Begin) (l h : List ℕ) (phase : Phase) (other page slot : ℕ) → l ≡ latest → h ≡ half → phase ≡ first-phase read → other ≡ 1 - half-named newest
+  pub power-up-restores : (r : Begin) (l h : List ℕ) (x : Bool) (phase : Phase) (other page slot : ℕ) → l ≡ latest → h ≡ half → x ≡ used → phase ≡ first-phase read → other ≡ 1 - half-named newest
       → page ≡ target-page (a .sizes .pages) (a .sizes .slots) read → slot ≡ target-slot (a .sizes .slots) read
       → (let old = stored (form-of h) (a .key) l h in let new = resumed Longer (a .key) (a .nonce) old in
-      r ≡ begin (first-of (half-lines (a .key) l h)) (a .key) new (job-of (a .key) new phase PowerUp other page slot) (a .staging) (a .state) (old .secret))
+      r ≡ begin (first-of (opening-lines h (good-tag (form-of h) (a .key) l h) x)) (a .key) new (job-of (a .key) new phase PowerUp other page slot) (a .staging) (a .state) (old .secret))
       → power-up-stop this-firmware ring fram a ≡ first-of rest-lines → r ≡ power-up this-firmware ring fram a
   unfolding power-up newest-checkpoint
-  power-up-restores r l h phase other page slot el eh ep eo eg es e f =
-      e ∙ (λ i. begin (first-of (half-lines (a .key) (el i) (eh i))) (a .key) (resumed Longer (a .key) (a .nonce) (stored (form-of (eh i)) (a .key) (el i) (eh i)))
+  power-up-restores r l h x phase other page slot el eh eu ep eo eg es e f =
+      e ∙ (λ i. begin (first-of (opening-lines (eh i) (good-tag (form-of (eh i)) (a .key) (el i) (eh i)) (eu i))) (a .key) (resumed Longer (a .key) (a .nonce) (stored (form-of (eh i)) (a .key) (el i) (eh i)))
       (job-of (a .key) (resumed Longer (a .key) (a .nonce) (stored (form-of (eh i)) (a .key) (el i) (eh i))) (ep i) PowerUp (eo i) (eg i) (es i)) (a .staging) (a .state) (stored (form-of (eh i)) (a .key) (el i) (eh i) .secret))
       ∙ rw f
 

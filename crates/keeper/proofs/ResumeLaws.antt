@@ -3,7 +3,7 @@ use Prim.Native.Nat.{ℕ, _+_, _^_, _<_, _≤_}
 use mathlib.Core.Path.{_≡_, refl, sym, ap, _∙_}
 use mathlib.Core.Bool.{Bool, true, false, not}
 use mathlib.Core.Option.{Option, none, some}
-use mathlib.Core.List.{List, [], _∷_, _++_}
+use mathlib.Core.List.{List, [], _∷_}
 use lib.Dec.{eqb}
 use borrow.Author.Tests.{eqb-false, ltb-false, not-false}
 use native.Mathlib.Omega.{arith}
@@ -13,7 +13,7 @@ use Rattle.octets.specs.Octets.{part, put}
 use Rattle.octets.specs.Word.{value-of}
 use Rattle.octets.proofs.Laws.{part-put-same}
 use Rattle.stops.specs.Stops.{first-of, then-stop}
-use Rattle.stops.proofs.Laws.{tried, first-append, no-lines, one-more, passes}
+use Rattle.stops.proofs.Laws.{no-lines, one-more, passes}
 use Rattle.gcm.proofs.Laws.{length-encrypted}
 use Rattle.checkpoint.specs.Checkpoint.{Longer, Checkpoint, head-length, own-tag, sealed, sealed-length, checkpoint-of}
 use Rattle.checkpoint.specs.Half.{value-at, form-of, stored-packet, open-length, secret-length, stored-restarts, stored-open, stored-cipher, stored-tag, good-head, good-tag, stored}
@@ -22,7 +22,7 @@ use Rattle.checkpoint.proofs.SealedLaws.{length-sealed, length-own-tag}
 use Rattle.protocol.specs.Types.{Phase, PowerUp, Begun, Job}
 use Rattle.protocol.specs.Operations.{outgrows, Begin, begin, job-of, resumed}
 use Rattle.jobs.specs.Stages.{stopped}
-use Rattle.keeper.specs.Stages.{reseal-lines, half-lines, Reseals}
+use Rattle.keeper.specs.Stages.{opening-lines, Reseals}
 
 module _ (key latest half nonce : List ℕ) (good : good-head part-limit (form-of half) half ≡ true) where
   length-restored : length (stored (form-of half) key latest half .secret) ≡ secret-length (form-of half) half
@@ -56,37 +56,26 @@ module _ (key latest half nonce : List ℕ) (good : good-head part-limit (form-o
         restored = f;
       }
 
--- ---- stops 12, 13 and 4
+-- ---- stops 12, 13, 10 and 4
 
 -- a stop is not none
 pub stopped-not-none : {A : Type 0} {s : ℕ} → some s ≡ none → A
 stopped-not-none e = let z : _≡_ {A = ℕ} 0 1 = cc in absurd (omega arith)
 
--- stops 13 and 4 behind what was found of the half
-pub reseal-tried : (xs : List (ℕ × Bool)) (half : List ℕ) (r : ℕ) (g : Bool) (o₀ o₁ o₂ : Option ℕ) → o₀ ≡ first-of xs → r ≡ stored-restarts (form-of half) half → g ≡ outgrows Longer half
-    → o₁ ≡ then-stop o₀ 13 (eqb r restart-limit) → o₂ ≡ then-stop o₁ 4 g → o₂ ≡ first-of (xs ++ reseal-lines half)
-unfolding tried
-reseal-tried xs half r g o₀ o₁ o₂ e x y f h =
-    h ∙ (λ i. then-stop (f i) 4 (y i)) ∙ (λ i. then-stop (then-stop (e i) 13 (eqb (x i) restart-limit)) 4 (outgrows Longer half)) ∙ sym (first-append xs (reseal-lines half) refl)
+pub opening-tried : (half : List ℕ) (good used : Bool) (r : ℕ) (g : Bool) (o₁ o₂ o₃ o₄ : Option ℕ) → r ≡ stored-restarts (form-of half) half → g ≡ outgrows Longer half
+    → o₁ ≡ then-stop none 12 (not good) → o₂ ≡ then-stop o₁ 13 (eqb r restart-limit) → o₃ ≡ then-stop o₂ 10 used → o₄ ≡ then-stop o₃ 4 g → o₄ ≡ first-of (opening-lines half good used)
+opening-tried half good used r g o₁ o₂ o₃ o₄ x y e f k h =
+    one-more (_ ∷ _ ∷ _ ∷ []) 4 _ g o₃ o₄
+    (one-more (_ ∷ _ ∷ []) 10 _ used o₂ o₃ (one-more (_ ∷ []) 13 _ (eqb r restart-limit) o₁ o₂ (one-more [] 12 _ (not good) none o₁ no-lines refl e) (ap (λ (n : ℕ). eqb n restart-limit) x) f) refl k) y h
 
-pub half-tried : (key latest half : List ℕ) (t : Bool) (r : ℕ) (g : Bool) (o₁ o₂ o₃ : Option ℕ) → t ≡ good-tag (form-of half) key latest half → r ≡ stored-restarts (form-of half) half
-    → g ≡ outgrows Longer half → o₁ ≡ then-stop none 12 (not t) → o₂ ≡ then-stop o₁ 13 (eqb r restart-limit) → o₃ ≡ then-stop o₂ 4 g → o₃ ≡ first-of (half-lines key latest half)
-half-tried key latest half t r g o₁ o₂ o₃ x y z e f h = reseal-tried (_ ∷ []) half r g o₁ o₂ o₃ (one-more [] 12 _ (not t) none o₁ no-lines (ap not x) e) y z f h
-
-pub tag-passes : (key latest half : List ℕ) → first-of (half-lines key latest half) ≡ none → good-tag (form-of half) key latest half ≡ true
-tag-passes key latest half e = not-false (good-tag (form-of half) key latest half) (passes _ e .0)
-
--- where a condition was tried and there is no stop, there was none before and it does not hold
-pub not-stopped : (o : Option ℕ) (n : ℕ) (b : Bool) → then-stop o n b ≡ none → (o ≡ none) × (b ≡ false)
-not-stopped (some s) n b e = stopped-not-none e
-not-stopped none n true e = stopped-not-none e
-not-stopped none n false e = (refl, refl)
+pub tag-passes : (half : List ℕ) (good used : Bool) → first-of (opening-lines half good used) ≡ none → good ≡ true
+tag-passes half good used e = not-false good (passes _ e .0)
 
 -- where stop 13 does not apply a restart more is in range
-pub restarts-below : (half : List ℕ) (r : ℕ) → good-head part-limit (form-of half) half ≡ true → r ≡ stored-restarts (form-of half) half → eqb r restart-limit ≡ false → r < restart-limit
+pub restarts-below : (half : List ℕ) (r : ℕ) → good-head part-limit (form-of half) half ≡ true → r ≡ stored-restarts (form-of half) half → eqb (stored-restarts (form-of half) half) restart-limit ≡ false → r < restart-limit
 restarts-below half r good e f =
     let small = head-facts part-limit (form-of half) half good .restarts-small in
-    let other : r ≡ restart-limit → ⊥ = eqb-false r restart-limit f in
+    let other : stored-restarts (form-of half) half ≡ restart-limit → ⊥ = eqb-false _ restart-limit f in
     omega (arith, small, e, other)
 
 -- where stop 4 does not apply the half has room for its checkpoint in the longer form

@@ -1,22 +1,21 @@
--- The stops of power-up in the stages in which the code tries them (document 01, "Stops, by the place of checking", and document 02, A.2).
+-- The stops of power-up in the stages in which the code tries them (document 01, "Stops, by the place of checking", and document 02, A.2 and A.6).
 use Prim.Native.Nat.{ℕ}
 use mathlib.Core.Path.{_≡_}
 use mathlib.Core.Bool.{Bool, not, _||_}
 use mathlib.Core.List.{List, [], _∷_, _++_}
 use lib.Dec.{eqb}
-use lib.ListN.{length}
+use lib.ListN.{length, take}
 use Rattle.protocol.specs.Types.{this-firmware}
-use Rattle.octets.specs.Limits.{restart-limit}
+use Rattle.octets.specs.Limits.{nonce-length, part-limit, restart-limit}
 use Rattle.octets.specs.Octets.{put}
-use Rattle.ring.specs.Ring.{Newest, is-blank, is-unreadable, nonce-used, half-named}
 use Rattle.checkpoint.specs.declared.half.Head.{Head}
 use Rattle.checkpoint.specs.Checkpoint.{Longer, head-length, sealed, own-tag}
+use Rattle.ring.specs.Ring.{half-named}
 use Rattle.checkpoint.specs.Fram.{half-at}
-use Rattle.checkpoint.specs.Half.{form-of, stored-packet, open-length, secret-length, stored-restarts, good-tag, stored}
+use Rattle.checkpoint.specs.Half.{form-of, stored-packet, open-length, secret-length, stored-restarts, good-head, good-tag, stored}
 use Rattle.memories.specs.Stages.{of-memories}
 use Rattle.protocol.specs.Calls.{PowersUp}
 use Rattle.protocol.specs.Operations.{key-wrong, nonce-wrong, staging-wrong, state-wrong, outgrows, resumed}
-use Rattle.look.specs.Stages.{look-half}
 
 -- ---- conditions
 
@@ -27,21 +26,19 @@ power-up-buffers ring fram a =
     (3, key-wrong (length (a .key)) || nonce-wrong (length (a .nonce))) ∷
     (4, staging-wrong (a .staging) fram || state-wrong this-firmware (a .state)) ∷ [])
 
--- those about the ring, which reads as n
-abbrev pub power-up-ring : (ring : List ℕ) → ℕ → Newest → List ℕ → List (ℕ × Bool)
-power-up-ring ring slots n nonce = (6, is-blank n) ∷ (7, is-unreadable n) ∷ (10, nonce-used ring slots n nonce) ∷ []
+-- those about a half with a good head: whether its tag is good, its restarts, whether the nonce is used, and its length, sealed anew
+abbrev pub opening-lines : List ℕ → (good used : Bool) → List (ℕ × Bool)
+opening-lines half good used =
+    (12, not good) ∷
+    (13, eqb (stored-restarts (form-of half) half) restart-limit) ∷
+    (10, used) ∷
+    (4, outgrows Longer half) ∷ []
 
--- those about a half that can be opened: its restarts, and its length, sealed anew
-abbrev pub reseal-lines : List ℕ → List (ℕ × Bool)
-reseal-lines half = (13, eqb (stored-restarts (form-of half) half) restart-limit) ∷ (4, outgrows Longer half) ∷ []
-
--- those about the half that a record names: look's, and these
-abbrev pub power-up-half : (key newest fram : List ℕ) → List (ℕ × Bool)
-power-up-half key newest fram = look-half key newest fram ++ reseal-lines (half-at fram (half-named newest))
-
--- those about the half behind a good head, whose record has the nonce `latest`
-abbrev pub half-lines : (key latest half : List ℕ) → List (ℕ × Bool)
-half-lines key latest half = (12, not (good-tag (form-of half) key latest half)) ∷ reseal-lines half
+-- those about the half that a record names
+abbrev pub power-up-half : (key newest fram : List ℕ) → Bool → List (ℕ × Bool)
+power-up-half key newest fram used =
+    let half = half-at fram (half-named newest) in
+    (11, not (good-head part-limit (form-of half) half)) ∷ opening-lines half (good-tag (form-of half) key (take nonce-length newest) half) used
 
 -- ---- a half's head as the code holds it, and what sealing it anew leaves
 

@@ -11,6 +11,7 @@ use checkpoint::half::open_secret;
 use checkpoint::half::read_head;
 use checkpoint::layout::EMPTY_LENGTH;
 use checkpoint::staging::seal;
+use checkpoint::under::good_tag_under;
 use gcm::key_wrong;
 use gcm::nonce_wrong;
 use gcm::tag::hash_steps;
@@ -20,8 +21,8 @@ use jobs::Origin;
 use jobs::Phase;
 use jobs::Start;
 use jobs::no_job;
-use look::check_half;
 use memories::check_memories;
+use memories::check_newest;
 use octets::fill;
 use octets::limits::NONCE_LENGTH;
 use octets::limits::PART_LIMIT;
@@ -45,7 +46,8 @@ ghost use Rattle.octets.specs.Limits.{key-length, nonce-length, part-limit, res
 ghost use Rattle.stops.specs.Stops.{first-of};
 ghost use Rattle.stops.specs.View.{check-number, stop-number};
 ghost use Rattle.aes.specs.Cipher.{cipher, aes};
-ghost use Rattle.ring.specs.Ring.{ring-wrong, read-ring, half-named, Within};
+ghost use Rattle.memories.specs.Stages.{of-newest};
+ghost use Rattle.ring.specs.Ring.{read-ring, half-named, Within};
 ghost use Rattle.ring.specs.View.{newest};
 ghost use Rattle.checkpoint.specs.Checkpoint.{Longer};
 ghost use Rattle.checkpoint.specs.Fram.{fram-wrong};
@@ -56,7 +58,7 @@ ghost use Rattle.protocol.specs.Operations.{outgrows, begin, job-of, resumed, f
 ghost use Rattle.jobs.specs.View.{view-phase};
 ghost use Rattle.keeper.specs.View.{view-powered-up, powers-up};
 ghost use Rattle.jobs.specs.Stages.{stopped};
-ghost use Rattle.keeper.specs.Stages.{power-up-buffers, power-up-ring, power-up-half, half-lines, HeadOf, Reseals};
+ghost use Rattle.keeper.specs.Stages.{power-up-buffers, power-up-half, opening-lines, HeadOf, Reseals};
 ghost use Rattle.keeper.specs.Resealing.{Outcome};
 
 // What sealing anew answers: why it stops, or the new checkpoint's tag.
@@ -65,12 +67,24 @@ struct Resealed {
     tag: [u8; 16],
 }
 
-// Stop 4 behind 13: the half's checkpoint, sealed anew in the longer form, outgrows it.
+// The last stop, 4: the half's checkpoint, sealed anew in the longer form, outgrows it.
 fn outgrows(half: &[u8], head: Head) -> bool
     requires { ⌜ HeadOf head (now half) ⌝ }
     ensures { λ r. ⌜ r ≡ outgrows Longer (now (half .entry)) ⌝ }
 {
     half.len() < EMPTY_LENGTH + head.open + head.secret
+}
+
+// Stops 12, 13, 10 and 4 of a half with a good head; its tag is good or not, and the nonce is used or not.
+fn check_opening(half: &[u8], head: Head, good: bool, used: bool) -> Check
+    requires { ⌜ HeadOf head (now half) ⌝ }
+    ensures { λ r. ⌜ check-number r ≡ first-of (opening-lines (now (half .entry)) good used) ⌝ }
+{
+    Check::Pass
+        .stop_if(!good, Stop::TagDiffers)
+        .stop_if(head.restarts == RESTART_LIMIT, Stop::RestartLimit)
+        .stop_if(used, Stop::NonceUsed)
+        .stop_if(outgrows(half, head), Stop::BufferSize)
 }
 
 // Opens the secret part of a half into the front of state, and seals both parts, with one restart more and behind the half's own tag, into
@@ -117,7 +131,7 @@ fn reopen(
     )
 }
 
-// Stops 12, 13 and 4 of a half with a good head, or the checkpoint sealed anew.
+// Stops 12, 13, 10 and 4 of a half with a good head, or the checkpoint sealed anew; the nonce is used or not.
 fn reseal_prepared(
     table: &[u32; 256],
     keys: &[u8; 240],
@@ -127,11 +141,12 @@ fn reseal_prepared(
     half: &[u8],
     head: Head,
     nonce: &[u8],
+    used: bool,
     staging: &mut [u8],
     state: &mut [u8],
 ) -> Resealed
     requires { ⌜ Prepared (now table) (now keys) (now steps) rounds × (length (now latest) ≡ nonce-length) × (length (now nonce) ≡ nonce-length) × (good-head part-limit (form-of (now half)) (now half) ≡ true) × HeadOf head (now half) × (length (now half) ≤ length (now staging)) × (part-limit ≤ length (now state)) ⌝ }
-    ensures { λ r. ⌜ ((key : List ℕ) → cipher rounds (now (keys .entry)) ≡ aes key → Outcome key r (now (latest .entry)) (now (half .entry)) (now (nonce .entry)) (now (staging .entry)) (now (staging .exit)) (now (state .entry)) (now (state .exit))) ⌝ }
+    ensures { λ r. ⌜ ((key : List ℕ) → cipher rounds (now (keys .entry)) ≡ aes key → Outcome key r used (now (latest .entry)) (now (half .entry)) (now (nonce .entry)) (now (staging .entry)) (now (staging .exit)) (now (state .entry)) (now (state .exit))) ⌝ }
 {
     let good = good_tag(
         table,
@@ -144,10 +159,7 @@ fn reseal_prepared(
         head.open,
         head.secret,
     );
-    let check = Check::Pass
-        .stop_if(!good, Stop::TagDiffers)
-        .stop_if(head.restarts == RESTART_LIMIT, Stop::RestartLimit)
-        .stop_if(outgrows(half, head), Stop::BufferSize);
+    let check = check_opening(half, head, good, used);
     match check {
         Check::Stopped(stop) => {
             let zeros = [0u8; 16];
@@ -184,11 +196,12 @@ fn reseal(
     half: &[u8],
     head: Head,
     nonce: &[u8],
+    used: bool,
     staging: &mut [u8],
     state: &mut [u8],
 ) -> Resealed
     requires { ⌜ (length (now key) ≡ key-length) × (length (now latest) ≡ nonce-length) × (length (now nonce) ≡ nonce-length) × (good-head part-limit (form-of (now half)) (now half) ≡ true) × HeadOf head (now half) × (length (now half) ≤ length (now staging)) × (part-limit ≤ length (now state)) ⌝ }
-    ensures { λ r. ⌜ Outcome (now (key .entry)) r (now (latest .entry)) (now (half .entry)) (now (nonce .entry)) (now (staging .entry)) (now (staging .exit)) (now (state .entry)) (now (state .exit)) ⌝ }
+    ensures { λ r. ⌜ Outcome (now (key .entry)) r used (now (latest .entry)) (now (half .entry)) (now (nonce .entry)) (now (staging .entry)) (now (staging .exit)) (now (state .entry)) (now (state .exit)) ⌝ }
 {
     let rounds = key.len() / 4 + 6;
     let table = round_table();
@@ -203,6 +216,7 @@ fn reseal(
         half,
         head,
         nonce,
+        used,
         staging,
         state,
     );
@@ -223,13 +237,14 @@ fn not_resumed(stop: Stop) -> PoweredUp
     }
 }
 
-// A half with a good head: stops 12, 13 and 4, or the checkpoint sealed anew, and the job that stores it in a half and at a target.
+// A half with a good head: stops 12, 13, 10 and 4, or the checkpoint sealed anew, and the job that stores it in a half and at a target.
 fn restore(
     key: &[u8],
     latest: &[u8],
     half: &[u8],
     head: Head,
     nonce: &[u8],
+    used: bool,
     staging: &mut [u8],
     state: &mut [u8],
     phase: Phase,
@@ -238,9 +253,9 @@ fn restore(
     slot: usize,
 ) -> PoweredUp
     requires { ⌜ (length (now key) ≡ key-length) × (length (now latest) ≡ nonce-length) × (length (now nonce) ≡ nonce-length) × (good-head part-limit (form-of (now half)) (now half) ≡ true) × HeadOf head (now half) × (length (now half) ≤ length (now staging)) × (part-limit ≤ length (now state)) ⌝ }
-    ensures { λ r. ⌜ view-powered-up r (now (staging .exit)) (now (state .exit)) ≡ begin (first-of (half-lines (now (key .entry)) (now (latest .entry)) (now (half .entry)))) (now (key .entry)) (resumed Longer (now (key .entry)) (now (nonce .entry)) (stored (form-of (now (half .entry))) (now (key .entry)) (now (latest .entry)) (now (half .entry)))) (job-of (now (key .entry)) (resumed Longer (now (key .entry)) (now (nonce .entry)) (stored (form-of (now (half .entry))) (now (key .entry)) (now (latest .entry)) (now (half .entry)))) (view-phase phase) PowerUp other page slot) (now (staging .entry)) (now (state .entry)) (stored (form-of (now (half .entry))) (now (key .entry)) (now (latest .entry)) (now (half .entry)) .secret) ⌝ }
+    ensures { λ r. ⌜ view-powered-up r (now (staging .exit)) (now (state .exit)) ≡ begin (first-of (opening-lines (now (half .entry)) (good-tag (form-of (now (half .entry))) (now (key .entry)) (now (latest .entry)) (now (half .entry))) used)) (now (key .entry)) (resumed Longer (now (key .entry)) (now (nonce .entry)) (stored (form-of (now (half .entry))) (now (key .entry)) (now (latest .entry)) (now (half .entry)))) (job-of (now (key .entry)) (resumed Longer (now (key .entry)) (now (nonce .entry)) (stored (form-of (now (half .entry))) (now (key .entry)) (now (latest .entry)) (now (half .entry)))) (view-phase phase) PowerUp other page slot) (now (staging .entry)) (now (state .entry)) (stored (form-of (now (half .entry))) (now (key .entry)) (now (latest .entry)) (now (half .entry)) .secret) ⌝ }
 {
-    let resealed = reseal(key, latest, half, head, nonce, staging, state);
+    let resealed = reseal(key, latest, half, head, nonce, used, staging, state);
     let check = resealed.check;
     match check {
         Check::Stopped(stop) => not_resumed(stop),
@@ -300,35 +315,19 @@ fn check_power_up_buffers(
         .stop_if(buffers, Stop::BufferSize)
 }
 
-// Stops 6, 7 and 10 of power-up, on a ring that reads as `found`.
-fn check_power_up_ring(
-    pages: usize,
-    slots: usize,
-    ring: &[u8],
-    found: Newest,
-    nonce: &[u8],
-) -> Check
-    requires { ⌜ (ring-wrong pages slots (now ring) ≡ false) × Within pages slots (newest found) ⌝ }
-    ensures { λ r. ⌜ check-number r ≡ first-of (power-up-ring (now (ring .entry)) slots (newest found) (now (nonce .entry))) ⌝ }
-{
-    let used = nonce_used(ring, pages, slots, found, nonce);
-    Check::Pass
-        .stop_if(found.is_blank(), Stop::RingBlank)
-        .stop_if(found.is_unreadable(), Stop::RingUnreadable)
-        .stop_if(used, Stop::NonceUsed)
-}
-
-// Stops 11 to 13 and 4 of power-up, on the half that a record names.
-fn check_power_up_half(record: &[u8], fram: &[u8], key: &[u8]) -> Check
+// Stops 11, 12, 13, 10 and 4 of power-up, on the half that a record names; the nonce is used or not.
+fn check_power_up_half(record: &[u8], fram: &[u8], key: &[u8], used: bool) -> Check
     requires { ⌜ (fram-wrong fram-limit (now fram) ≡ false) × (length (now key) ≡ key-length) × (length (now «record») ≡ slot-length) × (half-named (now «record») ≤ 1) ⌝ }
-    ensures { λ r. ⌜ check-number r ≡ first-of (power-up-half (now (key .entry)) (now («record» .entry)) (now (fram .entry))) ⌝ }
+    ensures { λ r. ⌜ check-number r ≡ first-of (power-up-half (now (key .entry)) (now («record» .entry)) (now (fram .entry)) used) ⌝ }
 {
     let half = half_at(fram, half_named(record));
     let head = read_head(half);
-    let n = head.restarts;
-    check_half(key, part(record, 0, NONCE_LENGTH), half, head)
-        .stop_if(n == RESTART_LIMIT, Stop::RestartLimit)
-        .stop_if(outgrows(half, head), Stop::BufferSize)
+    if head.good {
+        let latest = part(record, 0, NONCE_LENGTH);
+        let good = good_tag_under(key, latest, half, head.start, head.open, head.secret);
+        return check_opening(half, head, good, used);
+    }
+    Check::Stopped(Stop::BadHead)
 }
 
 // Whether a power-up would stop, by 1 to 4, 6, 7 or 10 to 13. Nothing is stored.
@@ -349,16 +348,19 @@ pub fn power_up_check(
         Check::Stopped(stop) => Check::Stopped(stop),
         Check::Pass => {
             let found = read_ring(ring, pages, slots);
-            let check = check_power_up_ring(pages, slots, ring, found, nonce);
+            let check = check_newest(found);
             match check {
                 Check::Stopped(stop) => Check::Stopped(stop),
-                Check::Pass => check_power_up_half(found.record(ring, pages, slots), fram, key),
+                Check::Pass => {
+                    let used = nonce_used(ring, pages, slots, found, nonce);
+                    check_power_up_half(found.record(ring, pages, slots), fram, key, used)
+                }
             }
         }
     }
 }
 
-// Where stops 1 to 10 do not apply.
+// Where stops 1 to 7 do not apply.
 fn resume(
     pages: usize,
     slots: usize,
@@ -370,7 +372,7 @@ fn resume(
     state: &mut [u8],
     found: Newest,
 ) -> PoweredUp
-    requires { ⌜ (first-of (power-up-buffers (now ring) (now fram) (powers-up pages slots (now key) (now nonce) (now staging) (now state))) ≡ none) × (newest found ≡ read-ring (now ring) pages slots) × Within pages slots (newest found) × (first-of (power-up-ring (now ring) slots (newest found) (now nonce)) ≡ none) ⌝ }
+    requires { ⌜ (first-of (power-up-buffers (now ring) (now fram) (powers-up pages slots (now key) (now nonce) (now staging) (now state))) ≡ none) × (newest found ≡ read-ring (now ring) pages slots) × Within pages slots (newest found) × (first-of (of-newest (newest found)) ≡ none) ⌝ }
     ensures { λ r. ⌜ view-powered-up r (now (staging .exit)) (now (state .exit)) ≡ power-up this-firmware (now (ring .entry)) (now (fram .entry)) (powers-up pages slots (now (key .entry)) (now (nonce .entry)) (now (staging .entry)) (now (state .entry))) ⌝ }
 {
     let record = found.record(ring, pages, slots);
@@ -379,6 +381,7 @@ fn resume(
     let head = read_head(half);
     if head.good {
         let latest = part(record, 0, NONCE_LENGTH);
+        let used = nonce_used(ring, pages, slots, found, nonce);
         let phase = first_phase(found);
         let page = found.target_page(pages, slots);
         let slot = found.target_slot(slots);
@@ -388,6 +391,7 @@ fn resume(
             half,
             head,
             nonce,
+            used,
             staging,
             state,
             phase,
@@ -414,7 +418,7 @@ fn power_up_on(
     ensures { λ r. ⌜ view-powered-up r (now (staging .exit)) (now (state .exit)) ≡ power-up this-firmware (now (ring .entry)) (now (fram .entry)) (powers-up pages slots (now (key .entry)) (now (nonce .entry)) (now (staging .entry)) (now (state .entry))) ⌝ }
 {
     let found = read_ring(ring, pages, slots);
-    let check = check_power_up_ring(pages, slots, ring, found, nonce);
+    let check = check_newest(found);
     match check {
         Check::Stopped(stop) => not_resumed(stop),
         Check::Pass => resume(pages, slots, ring, fram, key, nonce, staging, state, found),

@@ -25,7 +25,7 @@ use Rattle.checkpoint.proofs.SealedLaws.{head-small, length-own-tag, length-sea
 use Rattle.checkpoint.proofs.StoredLaws.{packet-small, stored-in-range, stored-small}
 use Rattle.protocol.specs.Types.{Phase, EraseFirst, Words, Record, EraseAfter, Done, Origin, Job, Session, this-firmware}
 use Rattle.protocol.specs.Calls.{Sizes, SaveArguments, FirstSave, Saves, PowersUp, Advances}
-use Rattle.protocol.specs.Operations.{key-wrong, nonce-wrong, stale, session-wrong, newest-in, written-number, larger, save-restarts, no-job, begin, job-of, first-checkpoint, save-checkpoint, resumed, first-phase, first-save-stop, first-save, save-stop, save, newest-half, newest-checkpoint, power-up-stop, power-up, no-session, job-record, session-of, in-phase, Moved, going-on, ended, recorded, erase-follows, after-record, store, advance-stop, advance-by, advance}
+use Rattle.protocol.specs.Operations.{key-wrong, nonce-wrong, stale, session-wrong, newest-in, written-number, larger, save-restarts, no-job, begin, job-of, first-checkpoint, save-checkpoint, resumed, first-phase, first-save-stop, first-save, save-stop, save, newest-half, newest-checkpoint, half-lines, power-up-stop, power-up, no-session, job-record, session-of, in-phase, Moved, going-on, ended, recorded, erase-follows, after-record, store, advance-stop, advance-by, advance}
 use Rattle.protocol.proofs.FirstSaves.{numbered}
 use Rattle.protocol.proofs.Saves.{save-numbered, save-few}
 use Rattle.jobs.proofs.AdvanceLaws.{Ready, ready, word-ready}
@@ -133,14 +133,14 @@ module _ (ring fram : List ℕ) where
       (small Longer (written-number Longer (larger (a .session .packet) (a .arguments .packet))) (save-numbered Longer (a .arguments .packet) (a .session) (p .1 .1 .1 .1 .0) (y .1))))
 
   power-up-fits : (a : PowersUp) → power-up-stop this-firmware ring fram a ≡ none → FitsJob (power-up this-firmware ring fram a .job)
-  unfolding power-up newest-checkpoint resumed power-up-stop stored
+  unfolding power-up newest-checkpoint resumed half-lines power-up-stop stored
   power-up-fits a e =
       let z = a .sizes in
       let n = read-ring ring (z .pages) (z .slots) in
       let half = newest-half ring fram (z .slots) n in
       let p = passes _ e in
       let k = neither (key-wrong (length (a .key))) (nonce-wrong (length (a .nonce))) (p .1 .1 .0) in
-      let good = not-false (good-head part-limit (form-of half) half) (p .1 .1 .1 .1 .1 .1 .1 .0) in
+      let good = not-false (good-head part-limit (form-of half) half) (p .1 .1 .1 .1 .1 .1 .0) in
       let old = stored-in-range part-limit (form-of half) (a .key) (take nonce-length (newest-record ring (z .slots) n)) half good in
       let parts = stored-small part-limit (form-of half) (a .key) (take nonce-length (newest-record ring (z .slots) n)) half good in
       begun-fits (power-up-stop this-firmware ring fram a) _ _ _ _ _ _ e

@@ -69,17 +69,24 @@ fn set_byte(image: &mut [u8], at: usize, b: u8) {
     }
 }
 
+// With a new nonce, and with the newest one: at power-up 11, 12 and 13 go before 10.
+fn refuse_either(s: Session, new: u8, newest: u8, ring: &mut [u8], fram: &mut [u8]) {
+    do_power_up(s, new, STORES, ring, fram);
+    print(b"with the newest nonce, ");
+    do_power_up(s, newest, STORES, ring, fram);
+}
+
 // The low byte of the restarts' word of half A is set to 9, and back.
 fn refuse_nine(s: Session, ring: &mut [u8], fram: &mut [u8]) {
     print(b"restarts 9 stored, ");
     set_byte(fram, 15, 9);
-    do_power_up(s, 16, STORES, ring, fram);
+    refuse_either(s, 16, 15, ring, fram);
     set_byte(fram, 15, 8);
 }
 
 fn refuse_restarts(s: Session, ring: &mut [u8], fram: &mut [u8]) {
     print(b"restarts 8 stored, ");
-    do_power_up(s, 16, STORES, ring, fram);
+    refuse_either(s, 16, 15, ring, fram);
     refuse_nine(s, ring, fram);
 }
 
@@ -156,7 +163,7 @@ fn end(s: Session, ring: &mut [u8], fram: &mut [u8]) {
     do_save(s, 11, 22, STORES + 2, ring, fram);
     set_byte(fram, 32, 0);
     print(b"with a byte of the open part changed, ");
-    do_power_up(s, 23, STORES, ring, fram);
+    refuse_either(s, 23, 22, ring, fram);
 }
 
 fn work(first: Session, ring: &mut [u8], fram: &mut [u8]) -> Session {

@@ -3,21 +3,22 @@ use Prim.Native.Nat.{ℕ, _+_, _*_, _<_, _≤_}
 use mathlib.Core.Path.{_≡_, refl, sym, ap, subst, _∙_}
 use mathlib.Core.Bool.{Bool, false}
 use mathlib.Core.Option.{Option, none, some}
-use mathlib.Core.List.{List, [], _∷_, _++_}
+use mathlib.Core.List.{List, _++_}
 use native.Mathlib.Omega.{arith}
 use lib.ListN.{length}
 use borrow.Author.Tests.{eqb-true, not-false}
 use Rattle.protocol.specs.Types.{this-firmware}
 use Rattle.octets.specs.Limits.{key-length, fram-limit, part-limit}
-use Rattle.stops.specs.Stops.{first-of, then-stop}
-use Rattle.stops.proofs.Laws.{tried, tried-first, first-append, no-lines, one-more, passes}
-use Rattle.ring.specs.Ring.{Newest, ring-wrong, read-ring, is-blank, is-unreadable, newest-record, half-named}
+use Rattle.stops.specs.Stops.{first-of}
+use Rattle.stops.proofs.Laws.{tried, tried-first, first-append, passes}
+use Rattle.ring.specs.Ring.{Newest, ring-wrong, read-ring, newest-record, half-named}
 use Rattle.ring.proofs.NewestLaws.{newest-half-fits}
 use Rattle.checkpoint.specs.Checkpoint.{head-length}
 use Rattle.checkpoint.specs.Fram.{fram-wrong, half-length, half-at}
 use Rattle.checkpoint.proofs.FramLaws.{an-image, half-within, half-long}
 use Rattle.checkpoint.proofs.StoredLaws.{head-facts}
 use Rattle.checkpoint.specs.Half.{form-of, open-length, stored-restarts}
+use Rattle.memories.specs.Stages.{of-newest}
 use Rattle.protocol.specs.Operations.{newest-half, look-stop, look, look-by, open-stretch, stretch-by}
 use Rattle.look.specs.View.{view-looked, view-stretch, looks}
 use Rattle.look.specs.Stages.{look-buffers, look-half}
@@ -38,7 +39,7 @@ module _ (pages slots : ℕ) (ring fram key : List ℕ) where
   stop = look-stop this-firmware ring fram (looks pages slots key)
 
   abbrev pub ring-lines : List (ℕ × Bool)
-  ring-lines = (6, is-blank read) ∷ (7, is-unreadable read) ∷ []
+  ring-lines = of-newest read
 
   abbrev half-lines : List (ℕ × Bool)
   half-lines = look-half key newest fram
@@ -68,12 +69,6 @@ module _ (pages slots : ℕ) (ring fram key : List ℕ) where
   buffers-pass e =
       let p = passes _ e in
       record { ring-right = p .0; fram-right = p .1 .0; key-long = eqb-true (length key) key-length (not-false _ (p .1 .1 .0)) }
-
-  -- the ring's two conditions tried one after the other
-  pub ring-tried : (n : Newest) (b u : Bool) (o₁ o₂ : Option ℕ) → n ≡ read → b ≡ is-blank n → u ≡ is-unreadable n
-      → o₁ ≡ then-stop none 6 b → o₂ ≡ then-stop o₁ 7 u → o₂ ≡ first-of ring-lines
-  ring-tried n b u o₁ o₂ r x y f g =
-      one-more (_ ∷ []) 7 _ u o₁ o₂ (one-more [] 6 _ b none o₁ no-lines (x ∙ ap is-blank r) f) (y ∙ ap is-unreadable r) g
 
   -- the record that was found names a half
   pub names-half : (rec : List ℕ) → rec ≡ newest → ring-wrong pages slots ring ≡ false → first-of ring-lines ≡ none → half-named rec ≤ 1

@@ -7,6 +7,7 @@ use checkpoint::half::read_head;
 use checkpoint::under::good_tag_under;
 use gcm::key_wrong;
 use memories::check_memories;
+use memories::check_newest;
 use octets::limits::NONCE_LENGTH;
 use octets::part;
 use ring::half_named;
@@ -33,7 +34,7 @@ ghost use Rattle.look.specs.Stages.{look-buffers, of-half, look-half};
 ghost use Rattle.look.specs.Seen.{Sees};
 
 // Stops 11 and 12 of a half, whose head was read.
-pub fn check_half(key: &[u8], nonce: &[u8], half: &[u8], head: Head) -> Check
+fn check_half(key: &[u8], nonce: &[u8], half: &[u8], head: Head) -> Check
     requires { ⌜ (length (now key) ≡ key-length) × (length (now nonce) ≡ nonce-length) × (head .good ≡ good-head part-limit (form-of (now half)) (now half)) × (head .start ≡ head-length (form-of (now half))) × (head .«open» ≡ open-length (form-of (now half)) (now half)) × (head .secret ≡ secret-length (form-of (now half)) (now half)) ⌝ }
     ensures { λ r. ⌜ check-number r ≡ first-of (of-half (now (key .entry)) (now (nonce .entry)) (now (half .entry))) ⌝ }
 {
@@ -80,9 +81,7 @@ fn see_newest(pages: usize, slots: usize, ring: &[u8], fram: &[u8], key: &[u8]) 
     ensures { λ r. ⌜ (view-looked (r .looked) ≡ look this-firmware (now (ring .entry)) (now (fram .entry)) (looks pages slots (now (key .entry)))) × (view-stretch r ≡ open-stretch this-firmware (now (ring .entry)) (now (fram .entry)) (looks pages slots (now (key .entry)))) ⌝ }
 {
     let newest = read_ring(ring, pages, slots);
-    let check = Check::Pass
-        .stop_if(newest.is_blank(), Stop::RingBlank)
-        .stop_if(newest.is_unreadable(), Stop::RingUnreadable);
+    let check = check_newest(newest);
     match check {
         Check::Stopped(stop) => unseen(stop),
         Check::Pass => see_half(newest.record(ring, pages, slots), fram, key),

@@ -1,2 +1,2 @@
--- The stops of both memories.
+-- The stops that calls have in common.
 pub mod Stages

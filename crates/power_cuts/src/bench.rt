@@ -131,15 +131,29 @@ fn print_stopped(unit: Unit) {
     print(b"     the stop DIFFERS from the book's\n");
 }
 
-// A power-up that stopped. At the alert the repairer takes a new unit: its ring is blank, and the FRAM is left as it is.
-fn stopped(unit: Unit, ring: &mut [u8]) -> Unit {
+// At the alert the repairer tries a nonce that is used, and then takes a new unit: its ring is blank, and the FRAM is left as it is.
+fn alerted(
+    first: Unit,
+    ring: &mut [u8],
+    fram: &[u8],
+    staging: &mut [u8],
+    state: &mut [u8],
+) -> Unit {
+    print(b"     with the nonce of the newest record                                        ");
+    let unit = first.try_used_nonce(ring, fram, staging, state);
+    print_stopped(unit);
+    print(b"     a new unit, its ring blank\n");
+    fill(ring, 0xFF);
+    unit.replaced()
+}
+
+// A power-up that stopped.
+fn stopped(unit: Unit, ring: &mut [u8], fram: &[u8], staging: &mut [u8], state: &mut [u8]) -> Unit {
     print_stopped(unit);
     if unit.stop == 6 {
         return unit;
     }
-    print(b"     a new unit, its ring blank\n");
-    fill(ring, 0xFF);
-    unit.replaced()
+    alerted(unit, ring, fram, staging, state)
 }
 
 // A power-up that runs to its end, or stops.
@@ -148,7 +162,7 @@ fn power_up(unit: Unit, ring: &mut [u8], fram: &mut [u8]) -> Unit {
     let mut state = [0u8; PART_LIMIT];
     let begun = unit.begin_power_up(ring, fram, &mut staging, &mut state);
     if begun.stop != 0 {
-        return stopped(begun, ring);
+        return stopped(begun, ring, fram, &mut staging, &mut state);
     }
     let run = begun.run(20, ring, fram, &staging);
     show_resumed(run, ring, fram, &state)

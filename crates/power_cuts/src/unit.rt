@@ -261,6 +261,20 @@ impl Unit {
         unit.power_up_begun(powered)
     }
 
+    // A power-up with the nonce of the newest record, which is used: a worn unit stops with 13 all the same.
+    pub fn try_used_nonce(
+        self,
+        ring: &[u8],
+        fram: &[u8],
+        staging: &mut [u8],
+        state: &mut [u8],
+    ) -> Unit {
+        let book = self.book;
+        let entry = book.entry;
+        let powered = start_power_up(entry.nonce, ring, fram, staging, state);
+        self.power_up_begun(powered)
+    }
+
     // An advance was made.
     fn moved(self, a: Advanced) -> Unit {
         let mut unit = self;

@@ -11,9 +11,9 @@ use Rattle.checkpoint.specs.Checkpoint.{Form, Checkpoint, sealed}
 use Rattle.checkpoint.specs.Half.{read-as, open-length, secret-length, good-head}
 use Rattle.checkpoint.proofs.FramLaws.{an-image}
 use Rattle.checkpoint.proofs.HalfLaws.{read-as-is, open-length-is, secret-length-is, head-refused, unread-refused}
-use Rattle.protocol.specs.Types.{Firmware}
+use Rattle.protocol.specs.Types.{Order, NonceFirst, HalfFirst, Firmware}
 use Rattle.protocol.specs.Calls.{Sizes, FirstSave, PowersUp, Looks, Setup, first-saved, powered-up}
-use Rattle.protocol.specs.Operations.{newest-in, newest-half, first-checkpoint, first-save-stop, power-up-stop, power-up, look-stop, look-by, look, stretch-by, open-stretch}
+use Rattle.protocol.specs.Operations.{newest-in, newest-half, first-checkpoint, first-save-stop, in-turn, half-lines, power-up-stop, power-up, look-stop, look-by, look, stretch-by, open-stretch}
 use Rattle.protocol.specs.History.{State, fresh, run, Allowed}
 use Rattle.protocol.specs.Recovery.{Started, Exact}
 use Rattle.protocol.specs.Histories.{to-its-end}
@@ -34,12 +34,27 @@ unfolding first-of
 ends-there [] ys n b e = ap (λ (t : Bool). cond t (some n) (first-of ys)) e
 ends-there (x ∷ xs) ys n b e = ap (λ (o : Option ℕ). cond (x .1) (some (x .0)) o) (ends-there xs ys n b e)
 
+-- and so does the first of those about the half, in either order
+ends-in-turn : (xs half ys : List (ℕ × Bool)) (nonce : ℕ × Bool) (o : Order) (n : ℕ) (b : Bool) → b ≡ true
+    → first-of (xs ++ (in-turn o nonce ((n, b) ∷ half) ++ ys)) ≡ first-of (xs ++ in-turn o nonce ((n, true) ∷ []))
+unfolding first-of
+ends-in-turn [] half ys nonce NonceFirst n b e = ends-there (nonce ∷ []) (half ++ ys) n b e
+ends-in-turn [] half ys nonce HalfFirst n b e = ap (λ (t : Bool). cond t (some n) (first-of ((half ++ nonce ∷ []) ++ ys))) e
+ends-in-turn (x ∷ xs) half ys nonce o n b e = ap (λ (p : Option ℕ). cond (x .1) (some (x .0)) p) (ends-in-turn xs half ys nonce o n b e)
+
 -- so the first is some
 stops : (xs : List (ℕ × Bool)) (n : ℕ) → (x : ℕ) × (first-of (xs ++ (n, true) ∷ []) ≡ some x)
 unfolding first-of
 stops [] n = (n, refl)
 stops ((m, true) ∷ xs) n = (m, refl)
 stops ((m, false) ∷ xs) n = stops xs n
+
+stops-in-turn : (xs : List (ℕ × Bool)) (nonce : ℕ × Bool) (o : Order) (n : ℕ) → (x : ℕ) × (first-of (xs ++ in-turn o nonce ((n, true) ∷ [])) ≡ some x)
+unfolding first-of
+stops-in-turn [] nonce NonceFirst n = stops (nonce ∷ []) n
+stops-in-turn [] nonce HalfFirst n = (n, refl)
+stops-in-turn ((m, true) ∷ xs) nonce o n = (m, refl)
+stops-in-turn ((m, false) ∷ xs) nonce o n = stops-in-turn xs nonce o n
 
 -- beside a stop the numbers don't count
 looked-by : (o p : Option ℕ) (n : ℕ) → o ≡ p → (x : ℕ) × (p ≡ some x) → look-by o n ≡ look-by p 0
@@ -65,11 +80,12 @@ module _ (firmware : Firmware) (ring fram : List ℕ) (z : Sizes) (c : Checkpoin
       ∙ ap (λ (l : List ℕ). not (good-head (firmware .longest-part) (read-as (firmware .form) l) l)) (h .there) ∙ ap not (refused b)
 
   powers-up : Beyond firmware c → (a : PowersUp) → a .sizes ≡ z → PowerUpRefused firmware ring fram a
-  unfolding power-up-stop power-up-at-11 Exact fresh
+  unfolding half-lines power-up-stop power-up-at-11 Exact fresh
   powers-up b a e =
-      let stop : power-up-stop firmware ring fram a ≡ power-up-at-11 firmware ring fram a = ends-there (_ ∷ _ ∷ _ ∷ _ ∷ _ ∷ _ ∷ _ ∷ []) _ 11 _ (bad-head b (a .sizes) e) in
+      let stop : power-up-stop firmware ring fram a ≡ power-up-at-11 firmware ring fram a =
+      ends-in-turn (_ ∷ _ ∷ _ ∷ _ ∷ _ ∷ _ ∷ []) _ _ _ (firmware .order) 11 _ (bad-head b (a .sizes) e) in
       record {
-        stop = stops (_ ∷ _ ∷ _ ∷ _ ∷ _ ∷ _ ∷ _ ∷ []) 11;
+        stop = stops-in-turn (_ ∷ _ ∷ _ ∷ _ ∷ _ ∷ _ ∷ []) _ (firmware .order) 11;
         started = subst (λ (o : Option ℕ). Started o (power-up firmware ring fram a) (a .staging) (a .state)) stop (exact (fresh firmware ring fram) (powered-up a));
       }
 

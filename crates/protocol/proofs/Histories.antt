@@ -581,7 +581,7 @@ newer-packet u firmware longer ring fram b f enough k few =
 
 pub in-order : InOrder
 unfolding InOrder
-in-order = (record { heads = tt; parts = lit≤ tt }, record { heads = tt; parts = lit≤ tt })
+in-order = (record { heads = tt; parts = lit≤ tt }, record { heads = tt; parts = lit≤ tt }, record { heads = tt; parts = lit≤ tt })
 
 -- what stands before it stands after it, where the next firmware takes the FRAM and halves have room for its form
 updated-standing : (u : Setup) (s : State) (next : Firmware) (n k : ℕ) → Standing u s n k → Succeeds (s .firmware) next

@@ -1,21 +1,26 @@
--- The FRAM keeps its length in every list that is allowed.
+-- The FRAM keeps its length in every list that is allowed, and what so holds after it.
 use mathlib.Core.Path.{_≡_, refl, sym, ap, subst, _∙_}
+use mathlib.Core.Bool.{true, false}
 use mathlib.Core.Logic.{_⊎_, inl, inr}
 use mathlib.Core.Option.{Option}
 use mathlib.Core.List.{List, [], _∷_}
 use lib.ListN.{length}
 use lib.Dec.{T}
 use Prim.Native.Nat.{ℕ}
-use Rattle.protocol.specs.Types.{Phase, EraseFirst, Words, Record, EraseAfter, Done, Start, Begun, Stopped}
+use Rattle.octets.specs.Octets.{blank}
+use Rattle.checkpoint.specs.Fram.{fram-wrong}
+use Rattle.checkpoint.proofs.FramLaws.{an-image, fram-kept}
+use Rattle.protocol.specs.Types.{Firmware, Phase, EraseFirst, Words, Record, EraseAfter, Done, Start, Begun, Stopped}
 use Rattle.protocol.specs.Calls.{Advances, Setup, Event, first-saved, saved, powered-up, advanced-by, PowerLoss, updated-to, lost-in-store}
 use Rattle.protocol.specs.Operations.{Begin}
 use Rattle.protocol.specs.Journal.{Journal, entered}
-use Rattle.protocol.specs.History.{State, Handed, refused, begun, broken-fram, broken, left-by, step, run, Left, Keeps, Allowed}
+use Rattle.protocol.specs.History.{State, Handed, refused, begun, broken-fram, broken, left-by, fresh, step, run, Left, Keeps, Allowed}
+use Rattle.protocol.specs.Recovery.{Fits}
 use Rattle.protocol.proofs.Invariant.{Doing, Holds}
 use Rattle.protocol.proofs.Refused.{step-refused}
 use Rattle.protocol.proofs.Advances.{call}
 use Rattle.protocol.proofs.PowerLosses.{word-loss-kept}
-use Rattle.protocol.proofs.Lists.{hold-step}
+use Rattle.protocol.proofs.Lists.{hold-step, hold-run, hold-fresh}
 use Rattle.protocol.proofs.Runs.{fram-long}
 
 begun-kept : (s : State) (x : Start) (b : Begin) (nonce : List ℕ) (j : Journal) → length (begun s x b nonce j .fram) ≡ length (s .fram)
@@ -54,3 +59,12 @@ run-kept u (e ∷ more) s inv (x, k) = run-kept u more (step u s e) (hold-step u
     step-kept : T (refused s e) ⊎ Keeps u s e → length (step u s e .fram) ≡ length (s .fram)
     step-kept (inl t) = ap (λ (y : State). length (y .fram)) (step-refused u s e t)
     step-kept (inr y) = keeps-kept u s e inv y
+
+-- after a list the invariant holds, and a FRAM that fits the firmware at first fits it still
+pub after : (u : Setup) (firmware : Firmware) (ring fram : List ℕ) → blank ring ≡ true → (events : List Event) → Allowed u (fresh firmware ring fram) events
+    → let s = run u (fresh firmware ring fram) events in Fits u (s .firmware) ring fram → Holds u s × (fram-wrong (s .firmware .largest-fram) (s .fram) ≡ false)
+unfolding fresh
+after u firmware ring fram b events k f =
+    let s = run u (fresh firmware ring fram) events in
+    let first = hold-fresh u firmware ring fram (f .ring-right) (an-image (s .firmware .largest-fram) fram (f .fram-right)) b in
+    (hold-run u events (fresh firmware ring fram) first k, fram-kept (s .firmware .largest-fram) fram (s .fram) (run-kept u events (fresh firmware ring fram) first k) (f .fram-right))

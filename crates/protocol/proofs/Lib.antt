@@ -12,6 +12,7 @@ pub mod Told
 pub mod Starts
 pub mod FirstSaves
 pub mod Saves
+pub mod Turns
 pub mod PowerUps
 pub mod PowerLosses
 pub mod Lists
@@ -20,6 +21,7 @@ pub mod Looking
 pub mod Blind
 pub mod Runs
 pub mod Lengths
+pub mod LastStops
 pub mod Recovery
 pub mod FreeResults
 pub mod Sequence
@@ -27,3 +29,4 @@ pub mod Interrupted
 pub mod Histories
 pub mod OlderLaws
 pub mod BeyondLaws
+pub mod OrderLaws

@@ -11,7 +11,7 @@ use Rattle.stops.proofs.Laws.{tried, first-append, passes}
 use Rattle.checkpoint.specs.Checkpoint.{Older, own-tag, sealed-length}
 use Rattle.checkpoint.specs.Half.{open-length, secret-length, good-head}
 use Rattle.checkpoint.proofs.StoredLaws.{head-facts}
-use Rattle.protocol.specs.Operations.{packet-wrong, session-wrong, written-number, save-restarts, outgrows, parts-wrong, state-wrong, job-wrong, newest-in, newest-half, first-checkpoint, save-checkpoint, resumed, first-save-stop, save-stop, power-up-stop, look-stop, advance-stop}
+use Rattle.protocol.specs.Operations.{packet-wrong, session-wrong, written-number, save-restarts, outgrows, parts-wrong, state-wrong, job-wrong, newest-in, newest-half, first-checkpoint, save-checkpoint, resumed, first-save-stop, save-stop, half-lines, power-up-stop, look-stop, advance-stop}
 use Rattle.protocol.specs.Older.{OlderIs}
 
 -- a condition that never holds may be left out
@@ -42,7 +42,7 @@ last-skipped xs n b f = first-append xs ((n, b) ∷ []) refl ∙ go (first-of xs
     go none e = ap (λ (t : Bool). cond t (some n) none) (f e)
 
 pub older-is : OlderIs
-unfolding OlderIs first-save-stop save-stop power-up-stop look-stop advance-stop packet-wrong session-wrong parts-wrong state-wrong job-wrong first-checkpoint save-checkpoint resumed written-number save-restarts
+unfolding OlderIs first-save-stop save-stop half-lines power-up-stop look-stop advance-stop packet-wrong session-wrong parts-wrong state-wrong job-wrong first-checkpoint save-checkpoint resumed written-number save-restarts
 older-is = (
   λ ring fram. record {
     first-save = λ a. skipped (_ ∷ _ ∷ _ ∷ _ ∷ []) (_ ∷ []) 18;

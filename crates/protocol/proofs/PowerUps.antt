@@ -4,7 +4,7 @@ use mathlib.Core.Path.{_≡_, refl, sym, ap, subst, _∙_}
 use mathlib.Core.Bool.{Bool, true, false, cond}
 use mathlib.Core.Logic.{inl, inr}
 use mathlib.Core.Option.{Option, none, some}
-use mathlib.Core.List.{List, _∷_, List·Memᴰ}
+use mathlib.Core.List.{List, [], _∷_, List·Memᴰ}
 use native.Mathlib.Omega.{arith}
 use lib.ListN.{length}
 use lib.Dec.{eqb}
@@ -22,13 +22,14 @@ use Rattle.checkpoint.specs.Fram.{fram-wrong, half-length}
 use Rattle.checkpoint.proofs.SealedLaws.{length-own-tag}
 use Rattle.protocol.specs.Types.{Firmware, PowerUp, Job, Phase}
 use Rattle.protocol.specs.Calls.{PowersUp, Setup, powered-up}
-use Rattle.protocol.specs.Operations.{key-wrong, nonce-wrong, staging-wrong, Begin, begin, job-of, outgrows, newest-half, newest-checkpoint, resumed, first-phase, power-up-stop, power-up}
+use Rattle.protocol.specs.Operations.{key-wrong, nonce-wrong, staging-wrong, Begin, begin, job-of, outgrows, newest-half, newest-checkpoint, resumed, first-phase, half-lines, power-up-stop, power-up}
 use Rattle.protocol.specs.Journal.{entered, resumed-entry, Journal, drafted, power-up-draft}
 use Rattle.protocol.specs.History.{State, begun, step, Keeps, left-by, refused, is-stop}
 use Rattle.protocol.proofs.Invariant.{Good, half-of, page-in, slot-in, Recorded, Holds}
 use Rattle.protocol.proofs.Reading.{reads, target-page-found, target-slot-found, other-half, restarts-found, checkpoint-found, outgrows-found}
 use Rattle.protocol.proofs.Starts.{Begins, started, start-holds, begun-stopped, begun-none}
 use Rattle.protocol.proofs.Saves.{in-use-recorded}
+use Rattle.protocol.proofs.Turns.{none-in-turn}
 
 -- firmware that reads a head keeps its packet number in its own form
 numbered-read : (firmware form : Form) (packet : ℕ) → Reads firmware form → PacketInRange form packet → PacketInRange firmware packet
@@ -144,9 +145,9 @@ record PowerUpPasses (u : Setup) (firmware : Firmware) (ring fram : List ℕ) (a
   fits : outgrows (firmware .form) (newest-half ring fram (u .sizes .slots) (read-ring ring (u .sizes .pages) (u .sizes .slots))) ≡ false
 
 power-passes : (u : Setup) (firmware : Firmware) (ring fram : List ℕ) (a : PowersUp) → power-up-stop firmware ring fram (power-call u a) ≡ none → PowerUpPasses u firmware ring fram a
-unfolding power-up-stop staging-wrong
+unfolding power-up-stop half-lines staging-wrong
 power-passes u firmware ring fram a e =
-    let p = passes _ e in
+    let p = passes _ (none-in-turn (_ ∷ _ ∷ _ ∷ _ ∷ _ ∷ _ ∷ []) _ (_ ∷ []) _ (firmware .order) e) in
     let lengths = neither (key-wrong (length (u .key))) (nonce-wrong (length (a .nonce))) (p .1 .1 .0) in
     let buffers = neither _ _ (p .1 .1 .1 .0) in
     let found = p .1 .1 .1 .1 in

@@ -1,7 +1,7 @@
 -- The theorem Recovery (document 01: demand 3, the cut rule).
 use Prim.Native.Nat.{ℕ, _+_, _≤_, _<_}
 use mathlib.Core.Path.{_≡_, refl, sym, ap, subst, _∙_}
-use mathlib.Core.Bool.{Bool, true, false, cond, _||_}
+use mathlib.Core.Bool.{Bool, true, false, cond}
 use mathlib.Core.Logic.{inl, inr}
 use mathlib.Core.Option.{Option, none, some}
 use mathlib.Core.List.{List, [], _∷_}
@@ -9,28 +9,29 @@ use native.Mathlib.Omega.{arith}
 use lib.ListN.{length}
 use lib.Dec.{eqb, ltb}
 use borrow.Author.Tests.{eq-eqb, ne-eqb, le-ltb, lt-ltb, eqb-true, eqb-false, ltb-true, ltb-false}
-use Rattle.octets.specs.Limits.{restart-limit, key-length, nonce-length}
+use Rattle.octets.specs.Limits.{restart-limit, key-length}
 use Rattle.octets.specs.Octets.{put, blank}
 use Rattle.stops.specs.Stops.{first-of}
-use Rattle.ring.specs.Ring.{ring-wrong}
-use Rattle.ring.proofs.RingLaws.{read-blank}
-use Rattle.ring.proofs.FoundLaws.{not-blank, not-unreadable}
-use Rattle.checkpoint.proofs.FramLaws.{an-image, wrong-at-any, fram-kept}
+use Rattle.ring.specs.Ring.{ring-wrong, nonce-used}
+use Rattle.checkpoint.proofs.FramLaws.{an-image, wrong-at-any}
 use Rattle.checkpoint.specs.Checkpoint.{Checkpoint, sealed, sealed-length}
 use Rattle.checkpoint.proofs.SealedLaws.{length-sealed, length-own-tag}
 use Rattle.checkpoint.specs.Fram.{fram-wrong, half-length}
-use Rattle.protocol.specs.Types.{Firmware, PowerUp, Begun, Stopped}
+use Rattle.protocol.specs.Types.{Firmware, PowerUp, Begun}
 use Rattle.protocol.specs.Calls.{PowersUp, Setup, Event, powered-up}
-use Rattle.protocol.specs.Operations.{key-wrong, nonce-wrong, staging-wrong, state-wrong, Begin, begin, power-up-stop, power-up}
+use Rattle.protocol.specs.Operations.{newest-in, Begin, begin, power-up-stop, power-up}
 use Rattle.protocol.specs.Journal.{Store, drafted, stores-of, power-up-draft}
 use Rattle.protocol.specs.History.{State, fresh, step, run, Allowed}
+use Rattle.protocol.specs.Orders.{AnyNonce}
 use Rattle.protocol.specs.Recovery.{Exactly, Fits, Last, answers, Resumes, Outgrown, Outcome, Recovery}
-use Rattle.protocol.proofs.Lengths.{run-kept}
+use Rattle.protocol.proofs.Lengths.{after}
 use Rattle.protocol.proofs.Invariant.{draft-of, DurableAt, Untouched, Holds, Ended}
-use Rattle.protocol.proofs.Reading.{reads, new-nonce, head-found, tag-found, restarts-found, outgrows-found}
+use Rattle.protocol.proofs.Reading.{reads, new-nonce}
+use Rattle.protocol.proofs.Turns.{new-in-turn}
+use Rattle.protocol.proofs.LastStops.{stop-blank, stop-entry, answer-stopped}
 use Rattle.protocol.proofs.Starts.{started}
 use Rattle.protocol.proofs.PowerUps.{power-call, Entry, resuming-job, power-up-is, resuming-holds, step-is}
-use Rattle.protocol.proofs.Lists.{hold-run, exactly, exactly-uninterrupted, exactly-unfit, hold-fresh}
+use Rattle.protocol.proofs.Lists.{exactly, exactly-uninterrupted, exactly-unfit, hold-fresh}
 use Rattle.protocol.proofs.LastRun.{ends, runs-on, answering, stores-some, answers-end}
 use Rattle.protocol.proofs.Looking.{seen}
 
@@ -38,51 +39,28 @@ use Rattle.protocol.proofs.Looking.{seen}
 
 module _ (u : Setup) (s : State) (inv : Holds u s) (a : PowersUp) (key-long : length (u .key) ≡ key-length)
     (framed : fram-wrong (s .firmware .largest-fram) (s .fram) ≡ false) (l : Last u s (power-call u a)) where
+  any : AnyNonce u s (power-call u a)
+  any = record { sizes = l .sizes; key = l .key; nonce-long = l .nonce-long; staging = l .staging; state = l .state }
+
   abbrev stop : Option ℕ
   stop = power-up-stop (s .firmware) (s .ring) (s .fram) (power-call u a)
-
-  sizes-pass : key-wrong (length (u .key)) || nonce-wrong (length (a .nonce)) ≡ false
-  sizes-pass = rw (eq-eqb (length (u .key)) key-length key-long, eq-eqb (length (a .nonce)) nonce-length (l .nonce-long))
-
-  buffers-pass : staging-wrong (a .staging) (s .fram) || state-wrong (s .firmware) (a .state) ≡ false
-  unfolding staging-wrong state-wrong
-  buffers-pass = rw (le-ltb (length (a .staging)) (half-length (s .fram)) (l .staging), le-ltb (length (a .state)) (s .firmware .longest-part) (l .state))
-
-  stop-blank : blank (s .ring) ≡ true → stop ≡ some 6
-  unfolding power-up-stop first-of
-  stop-blank b = rw (inv .ring-right, framed, sizes-pass, buffers-pass, read-blank (u .sizes .pages) (u .sizes .slots) (s .ring) (inv .ring-right) b)
 
   -- the entry sealed anew outgrows the half
   abbrev large : Checkpoint → Bool
   large c = ltb (half-length (s .fram)) (sealed-length (s .firmware .form) (length (c .open-part)) (length (c .secret)))
 
+  unused : (c : Checkpoint) → Entry u s c → nonce-used (s .ring) (u .sizes .slots) (newest-in (s .ring) (u .sizes)) (a .nonce) ≡ false
+  unused c r = rw (reads (inv .fram-right) r) (new-nonce (inv .fram-right) r (a .nonce) (l .nonce-new))
+
   pub stop-recorded : (c : Checkpoint) → Entry u s c
       → stop ≡ cond (eqb (c .restarts) restart-limit) (some 13) (cond (ltb (half-length (s .fram)) (sealed-length (s .firmware .form) (length (c .open-part)) (length (c .secret)))) (some 4) none)
-  unfolding power-up-stop first-of
-  stop-recorded c r =
-      rw (
-        inv .ring-right,
-        framed,
-        sizes-pass,
-        buffers-pass,
-        reads (inv .fram-right) r,
-        not-blank (s .journal .owed) (u .sizes .pages) (u .sizes .slots) (s .journal .count),
-        not-unreadable (s .journal .owed) (u .sizes .pages) (u .sizes .slots) (s .journal .count),
-        new-nonce (inv .fram-right) r (a .nonce) (l .nonce-new),
-        head-found (inv .fram-right) r (s .firmware) (inv .reads-entry c (r .entry-is)),
-        tag-found (inv .fram-right) r (s .firmware) (inv .reads-entry c (r .entry-is)),
-        restarts-found (inv .fram-right) r (s .firmware) (inv .reads-entry c (r .entry-is)),
-        outgrows-found (inv .fram-right) r (s .firmware) (inv .reads-entry c (r .entry-is)),
-      )
+  unfolding first-of
+  stop-recorded c r = stop-entry u s inv a key-long framed any c r ∙ new-in-turn (s .firmware .order) _ _ 10 (unused c r)
 
   -- with nothing recorded
-  pub answer-stopped : (x : ℕ) → stop ≡ some x → power-up (s .firmware) (s .ring) (s .fram) (power-call u a) .answer ≡ Stopped x
-  unfolding power-up begin
-  answer-stopped x e = rw e
-
   outcome-blank : Untouched (s .ring) (s .journal .entry) (s .journal .count) (s .journal .owed) (s .journal .power-ups) → Outcome u s (power-call u a)
   outcome-blank x =
-      let e = answer-stopped 6 (stop-blank (x .ring-blank)) in
+      let e = answer-stopped u s inv a key-long framed any 6 (stop-blank u s inv a key-long framed any (x .ring-blank)) in
       record {
         nothing = (λ q. x .no-entry, λ q. e);
         worn = (λ q. absurd (let z : _≡_ {A = ℕ} 0 1 = cc in omega arith), λ q. absurd (omega (arith, x .no-power-up)));
@@ -92,7 +70,7 @@ module _ (u : Setup) (s : State) (inv : Holds u s) (a : PowersUp) (key-long : le
 
   outcome-worn : (c : Checkpoint) → Entry u s c → c .restarts ≡ restart-limit → Outcome u s (power-call u a)
   outcome-worn c r w =
-      let e = answer-stopped 13 (stop-recorded c r ∙ ap (λ (b : Bool). cond b (some 13) (cond (large c) (some 4) none)) (eq-eqb (c .restarts) restart-limit w)) in
+      let e = answer-stopped u s inv a key-long framed any 13 (stop-recorded c r ∙ ap (λ (b : Bool). cond b (some 13) (cond (large c) (some 4) none)) (eq-eqb (c .restarts) restart-limit w)) in
       let p = r .entry-is in
       record {
         nothing = (λ q. absurd (let z : _≡_ {A = ℕ} 0 1 = cc in omega arith), λ q. absurd (let z : _≡_ {A = ℕ} 0 1 = cc in omega arith));
@@ -111,7 +89,7 @@ module _ (u : Setup) (s : State) (inv : Holds u s) (a : PowersUp) (key-long : le
       → half-length (s .fram) < sealed-length (s .firmware .form) (length (c .open-part)) (length (c .secret)) → Outcome u s (power-call u a)
   outcome-outgrown c r few large-one =
       let w : large c ≡ true = lt-ltb (half-length (s .fram)) (sealed-length (s .firmware .form) (length (c .open-part)) (length (c .secret))) large-one in
-      let e = answer-stopped 4 (stop-recorded c r ∙ (λ i. cond (ne-eqb (c .restarts) restart-limit few i) (some 13) (cond (w i) (some 4) none))) in
+      let e = answer-stopped u s inv a key-long framed any 4 (stop-recorded c r ∙ (λ i. cond (ne-eqb (c .restarts) restart-limit few i) (some 13) (cond (w i) (some 4) none))) in
       let p = r .entry-is in
       let g : Outgrown u s (power-call u a) c = rw (resealed-long c r) large-one in
       record {
@@ -216,22 +194,14 @@ pub recovery : Recovery
 unfolding Recovery fresh
 recovery u firmware ring fram b events k = (
   exactly-fresh u firmware ring fram b events k (ring-wrong (u .sizes .pages) (u .sizes .slots) ring) (fram-wrong (length fram) fram) refl refl,
-  λ f. (seen u s (held f) (framed f) (f .key-right), after-list f),
+  λ f. let x = after u firmware ring fram b events k f in (seen u s (x .0) (x .1) (f .key-right), after-list f),
 )
   where
     s : State
     s = run u (fresh firmware ring fram) events
 
-    held : Fits u (s .firmware) ring fram → Holds u s
-    held f = hold-run u events (fresh firmware ring fram) (hold-fresh u firmware ring fram (f .ring-right) (an-image (s .firmware .largest-fram) fram (f .fram-right)) b) k
-
-    kept : Fits u (s .firmware) ring fram → length (s .fram) ≡ length fram
-    kept f = run-kept u events (fresh firmware ring fram) (hold-fresh u firmware ring fram (f .ring-right) (an-image (s .firmware .largest-fram) fram (f .fram-right)) b) k
-
-    framed : Fits u (s .firmware) ring fram → fram-wrong (s .firmware .largest-fram) (s .fram) ≡ false
-    framed f = fram-kept (s .firmware .largest-fram) fram (s .fram) (kept f) (f .fram-right)
-
     after-list : Fits u (s .firmware) ring fram → (a : PowersUp) → Last u s a → Outcome u s a
     after-list f a l =
+        let x = after u firmware ring fram b events k f in
         let path : power-call u a ≡ a = λ i. record { sizes = sym (l .sizes) i; key = sym (l .key) i; nonce = a .nonce; staging = a .staging; state = a .state } in
-        subst (λ (y : PowersUp). Outcome u s y) path (outcome u s (held f) a (f .key-right) (framed f) (subst (λ (y : PowersUp). Last u s y) (sym path) l))
+        subst (λ (y : PowersUp). Outcome u s y) path (outcome u s (x .0) a (f .key-right) (x .1) (subst (λ (y : PowersUp). Last u s y) (sym path) l))

@@ -16,7 +16,7 @@ use Rattle.checkpoint.specs.Half.{read-as, Reads, open-length, secret-length}
 use Rattle.checkpoint.specs.Layout.{InRange}
 use Rattle.protocol.specs.Types.{Firmware}
 use Rattle.protocol.specs.Calls.{Sizes, FirstSave, PowersUp, Looks, Setup, Event, first-saved}
-use Rattle.protocol.specs.Operations.{key-wrong, nonce-wrong, newest-in, newest-half, staging-wrong, state-wrong, first-checkpoint, first-save-stop, power-up, look-by, look, stretch-by, open-stretch}
+use Rattle.protocol.specs.Operations.{key-wrong, nonce-wrong, newest-in, newest-half, staging-wrong, state-wrong, in-turn, first-checkpoint, first-save-stop, power-up, look-by, look, stretch-by, open-stretch}
 use Rattle.protocol.specs.History.{fresh, run, Allowed}
 use Rattle.protocol.specs.Recovery.{Started, Fits}
 use Rattle.protocol.specs.Histories.{to-its-end}
@@ -46,8 +46,7 @@ power-up-at-11 firmware ring fram a =
     (4, staging-wrong (a .staging) fram || state-wrong firmware (a .state)) ∷
     (6, is-blank n) ∷
     (7, is-unreadable n) ∷
-    (10, nonce-used ring (a .sizes .slots) n (a .nonce)) ∷
-    (11, true) ∷ [])
+    in-turn (firmware .order) (10, nonce-used ring (a .sizes .slots) n (a .nonce)) ((11, true) ∷ []))
 
 -- and a look's
 unfoldable pub look-at-11 : Firmware → (ring fram : List ℕ) → Looks → Option ℕ

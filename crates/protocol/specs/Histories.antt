@@ -11,7 +11,7 @@ use Rattle.octets.specs.Octets.{blank, erased, bytes}
 use Rattle.ring.specs.Ring.{At, AtPending, read-ring}
 use Rattle.checkpoint.specs.Checkpoint.{Form, Older, Longer, Checkpoint, empty-length}
 use Rattle.checkpoint.specs.Fram.{half-length}
-use Rattle.protocol.specs.Types.{Firmware, first-firmware, packet-firmware, this-firmware, Session, EraseFirst, Stopped}
+use Rattle.protocol.specs.Types.{Firmware, first-firmware, packet-firmware, larger-firmware, this-firmware, Session, EraseFirst, Stopped}
 use Rattle.protocol.specs.Calls.{sizes, SaveArguments, FirstSave, Saves, PowersUp, Setup, Event, first-saved, saved, powered-up, updated-to, lost-in-store}
 use Rattle.protocol.specs.Operations.{power-up}
 use Rattle.protocol.specs.Journal.{Draft}
@@ -134,7 +134,7 @@ NewerPacket =
 
 -- the papers' firmwares follow on each other
 unfoldable pub InOrder : Type 0
-InOrder = Succeeds first-firmware packet-firmware × Succeeds packet-firmware this-firmware
+InOrder = Succeeds first-firmware packet-firmware × Succeeds packet-firmware larger-firmware × Succeeds larger-firmware this-firmware
 
 -- a first save and m power-ups, the update to the next firmware, and k power-ups of that one
 unfoldable pub updating : Setup → State → Firmware → ℕ → ℕ → List Event

@@ -8,3 +8,4 @@ pub mod Recovery
 pub mod Histories
 pub mod Older
 pub mod Beyond
+pub mod Orders

@@ -1,12 +1,12 @@
--- What each operation answers and leaves in the lent buffers (document 01, "What the unit calls" and "Stops, by the place of checking", and document 02, A.2 and A.5).
+-- What each operation answers and leaves in the lent buffers (document 01, "What the unit calls" and "Stops, by the place of checking", and document 02, A.2, A.5 and A.6).
 -- A stop is the number of the first condition that holds, in a list with a line for each row of the papers that names the operation: rising, but
--- 18 comes right after 4, and a power-up's second 4 after 13 (A.2).
+-- 18 comes right after 4, and a power-up ends in 11, 12, 13, 10 and its second 4 (A.2 and A.6).
 -- `firmware` is the unit's, and `form` that of the heads which it writes: at `first-firmware` these are document 01's operations, and the code's
 -- promises are at `this-firmware`.
 use Prim.Native.Nat.{ℕ, _+_, _-_, _*_, _%_}
 use mathlib.Core.Bool.{Bool, true, false, not, cond, _&&_, _||_}
 use mathlib.Core.Option.{Option, none, some}
-use mathlib.Core.List.{List, [], _∷_}
+use mathlib.Core.List.{List, [], _∷_, _++_}
 use lib.ListN.{length, take, replicate}
 use lib.Dec.{eqb, leb, ltb}
 use Rattle.octets.specs.Limits.{slot-length, restart-limit, packet-limit, nonce-length, tag-length}
@@ -17,7 +17,7 @@ use Rattle.ring.specs.Ring.{Newest, Blank, Unreadable, At, AtPending, ring-wron
 use Rattle.checkpoint.specs.Fram.{fram-wrong, half-length, half-at}
 use Rattle.checkpoint.specs.Checkpoint.{Form, Older, Longer, Checkpoint, head-length, empty-length, sealed-length, part-wrong, own-tag, sealed}
 use Rattle.checkpoint.specs.Half.{read-as, open-length, secret-length, stored-restarts, good-head, good-tag, stored}
-use Rattle.protocol.specs.Types.{Firmware, Phase, EraseFirst, Words, Record, EraseAfter, Done, Origin, Save, PowerUp, Job, Session, Progress, GoingOn, Saved, Restored, Refused, Start, Begun, Stopped, Looked, Restarts, Unseen, Stretch}
+use Rattle.protocol.specs.Types.{Order, NonceFirst, HalfFirst, Firmware, Phase, EraseFirst, Words, Record, EraseAfter, Done, Origin, Save, PowerUp, Job, Session, Progress, GoingOn, Saved, Restored, Refused, Start, Begun, Stopped, Looked, Restarts, Unseen, Stretch}
 use Rattle.protocol.specs.Calls.{Sizes, FirstSave, Saves, PowersUp, Looks, Advances}
 
 -- what reading a ring of these sizes finds
@@ -168,6 +168,11 @@ first-phase (AtPending p q) = EraseFirst q
 unfoldable pub newest-half : (ring fram : List ℕ) → ℕ → Newest → List ℕ
 newest-half ring fram slots n = half-at fram (half-named (newest-record ring slots n))
 
+-- the stop of a used nonce and those about the half, in a power-up's order
+abbrev pub in-turn : Order → ℕ × Bool → List (ℕ × Bool) → List (ℕ × Bool)
+in-turn NonceFirst nonce half = nonce ∷ half
+in-turn HalfFirst nonce half = half ++ nonce ∷ []
+
 module _ (firmware : Firmware) (ring fram : List ℕ) where
   unfoldable pub first-save-stop : FirstSave → Option ℕ
   first-save-stop a = first-of (
@@ -207,10 +212,18 @@ module _ (firmware : Firmware) (ring fram : List ℕ) where
       (target-page (a .arguments .sizes .pages) (a .arguments .sizes .slots) n) (target-slot (a .arguments .sizes .slots) n))
       (a .arguments .staging) [] []
 
+  -- 11, 12 and 13: what is wrong with the half that the newest record names
+  unfoldable pub half-lines : PowersUp → List (ℕ × Bool)
+  half-lines a =
+      let n = newest-in ring (a .sizes) in
+      let half = newest-half ring fram (a .sizes .slots) n in
+      (11, not (good-head (firmware .longest-part) (read-as (firmware .form) half) half)) ∷
+      (12, not (good-tag (read-as (firmware .form) half) (a .key) (take nonce-length (newest-record ring (a .sizes .slots) n)) half)) ∷
+      (13, eqb (stored-restarts (read-as (firmware .form) half) half) restart-limit) ∷ []
+
   unfoldable pub power-up-stop : PowersUp → Option ℕ
   power-up-stop a =
       let n = newest-in ring (a .sizes) in
-      let half = newest-half ring fram (a .sizes .slots) n in
       first-of (
       (1, ring-wrong (a .sizes .pages) (a .sizes .slots) ring) ∷
       (2, fram-wrong (firmware .largest-fram) fram) ∷
@@ -218,11 +231,8 @@ module _ (firmware : Firmware) (ring fram : List ℕ) where
       (4, staging-wrong (a .staging) fram || state-wrong firmware (a .state)) ∷
       (6, is-blank n) ∷
       (7, is-unreadable n) ∷
-      (10, nonce-used ring (a .sizes .slots) n (a .nonce)) ∷
-      (11, not (good-head (firmware .longest-part) (read-as (firmware .form) half) half)) ∷
-      (12, not (good-tag (read-as (firmware .form) half) (a .key) (take nonce-length (newest-record ring (a .sizes .slots) n)) half)) ∷
-      (13, eqb (stored-restarts (read-as (firmware .form) half) half) restart-limit) ∷
-      (4, outgrows (firmware .form) half) ∷ [])
+      in-turn (firmware .order) (10, nonce-used ring (a .sizes .slots) n (a .nonce)) (half-lines a) ++
+      (4, outgrows (firmware .form) (newest-half ring fram (a .sizes .slots) n)) ∷ [])
 
   -- the checkpoint that the newest record names
   unfoldable pub newest-checkpoint : PowersUp → Checkpoint

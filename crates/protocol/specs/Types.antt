@@ -1,27 +1,36 @@
--- What the operations take and answer (document 01, "What the unit calls", and document 02, A.2 and A.5). A stop is one of the papers' numbers.
+-- What the operations take and answer (document 01, "What the unit calls", and document 02, A.2, A.5 and A.6). A stop is one of the papers' numbers.
 use Prim.Native.Nat.{ℕ, _≤_}
 use mathlib.Core.List.{List}
 use lib.Dec.{lit≤}
 use Rattle.octets.specs.Limits.{fram-limit, older-fram-limit, part-limit, older-part-limit, part-most}
 use Rattle.checkpoint.specs.Checkpoint.{Form, Older, Longer}
 
--- a unit's firmware: the form of the heads that it writes, and the longest part and the largest FRAM image that it takes; the length of the longest
--- part fits a word of the head
+-- which stop a power-up tries first: that of a used nonce, or those about the half which the newest record names
+pub data Order : Type 0 where
+  NonceFirst : Order
+  HalfFirst : Order
+
+-- a unit's firmware: the form of the heads that it writes, the order of its power-up's stops, and the longest part and the largest FRAM image that
+-- it takes; the length of the longest part fits a word of the head
 pub record Firmware : Type 0 where
   pub form : Form
+  pub order : Order
   pub longest-part : ℕ
   pub largest-fram : ℕ
   pub fits-word : longest-part ≤ part-most
 
--- document 01's, that of document 02's A.2, and that of A.5, which is the code's
+-- document 01's, those of document 02's A.2 and A.5, and that of A.6, which is the code's
 abbrev pub first-firmware : Firmware
-first-firmware = record { form = Older; longest-part = older-part-limit; largest-fram = older-fram-limit; fits-word = lit≤ tt }
+first-firmware = record { form = Older; order = NonceFirst; longest-part = older-part-limit; largest-fram = older-fram-limit; fits-word = lit≤ tt }
 
 abbrev pub packet-firmware : Firmware
-packet-firmware = record { form = Longer; longest-part = older-part-limit; largest-fram = older-fram-limit; fits-word = lit≤ tt }
+packet-firmware = record { form = Longer; order = NonceFirst; longest-part = older-part-limit; largest-fram = older-fram-limit; fits-word = lit≤ tt }
+
+abbrev pub larger-firmware : Firmware
+larger-firmware = record { form = Longer; order = NonceFirst; longest-part = part-limit; largest-fram = fram-limit; fits-word = lit≤ tt }
 
 abbrev pub this-firmware : Firmware
-this-firmware = record { form = Longer; longest-part = part-limit; largest-fram = fram-limit; fits-word = lit≤ tt }
+this-firmware = record { form = Longer; order = HalfFirst; longest-part = part-limit; largest-fram = fram-limit; fits-word = lit≤ tt }
 
 -- the next store of a job: the page to erase, or the number of the word to store
 pub data Phase : Type 0 where

@@ -41,6 +41,14 @@ first-append xs ys e = sym (tried-first (xs ++ ys)) ∙ split none xs ∙ ap (λ
     split o [] = refl
     split o (x ∷ xs) = split (then-stop o (x .0) (x .1)) xs
 
+-- a stop of the first stage stays
+pub first-stays : (xs ys : List (ℕ × Bool)) {s : ℕ} → first-of xs ≡ some s → first-of (xs ++ ys) ≡ some s
+first-stays xs ys {s} e = first-append xs ys e ∙ stays s ys
+
+-- and where it finds nothing the second is all
+pub first-passes : (xs ys : List (ℕ × Bool)) → first-of xs ≡ none → first-of (xs ++ ys) ≡ first-of ys
+first-passes xs ys e = first-append xs ys e ∙ tried-first ys
+
 -- no condition yet, and one condition more, tried behind a list
 pub no-lines : none ≡ first-of []
 unfolding first-of

@@ -246,7 +246,7 @@ pub fn save(
 /// # Errors
 ///
 /// [`Stop::RingSize`], [`Stop::FramSize`], [`Stop::KeyNonceTagSize`], [`Stop::BufferSize`], [`Stop::RingBlank`],
-/// [`Stop::RingUnreadable`], [`Stop::NonceUsed`], [`Stop::BadHead`], [`Stop::TagDiffers`], [`Stop::RestartLimit`], and after
+/// [`Stop::RingUnreadable`], [`Stop::BadHead`], [`Stop::TagDiffers`], [`Stop::RestartLimit`], [`Stop::NonceUsed`], and after
 /// them [`Stop::BufferSize`] again, where a checkpoint of the older form does not fit the half in the longer one.
 pub fn power_up(
     sizes: Sizes,

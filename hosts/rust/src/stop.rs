@@ -2,8 +2,8 @@ use std::error::Error;
 use std::fmt;
 
 /// Why a call stopped. The conditions are tried in the order of their numbers, those that name the call only, but 18 right
-/// after 4, 15 to 17 line by line, and after 13 whether what a power-up seals anew fits the half (4); the first that applies
-/// is answered, and no buffer changes.
+/// after 4, 15 to 17 line by line, and at power-up 10 after 13, and then whether what it seals anew fits the half (4); the
+/// first that applies is answered, and no buffer changes.
 #[derive(Clone, Copy, Debug, PartialEq, Eq, Hash, PartialOrd, Ord)]
 #[repr(u32)]
 pub enum Stop {

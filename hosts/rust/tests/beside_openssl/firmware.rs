@@ -1,4 +1,5 @@
-//! The firmwares that a unit may have: document 01's, that of document 02's A.2, and that of A.5, which is the keeper's.
+//! The firmwares that a unit may have: document 01's, those of document 02's A.2 and A.5, and that of A.6, which is the
+//! keeper's.
 
 use crate::layout::Form;
 
@@ -11,19 +12,24 @@ pub struct Firmware {
     /// The limit of each part, written or read, and the least state buffer.
     pub part_limit: usize,
     pub fram_limit: usize,
+    /// At power-up 11, 12 and 13 go before 10.
+    pub half_first: bool,
 }
 
 pub const DOCUMENT_01: Firmware =
-    Firmware { name: "document 01's", form: Form::Older, part_limit: 4096, fram_limit: 131_072 };
+    Firmware { name: "document 01's", form: Form::Older, part_limit: 4096, fram_limit: 131_072, half_first: false };
 
 pub const A_2: Firmware = Firmware { name: "A.2's", form: Form::Longer, ..DOCUMENT_01 };
 
 /// A.5: "Raise each part to 32,768 bytes (8,192 words) and the FRAM image to 262,144. The power-up's state buffer must be
 /// at least 32,768."
-pub const KEEPER: Firmware = Firmware { name: "A.5's", part_limit: 32_768, fram_limit: 262_144, ..A_2 };
+pub const A_5: Firmware = Firmware { name: "A.5's", part_limit: 32_768, fram_limit: 262_144, ..A_2 };
+
+/// A.6: "At power-up 11, 12 and 13 now go before 10, and the resealing's 4 goes after 10."
+pub const KEEPER: Firmware = Firmware { name: "A.6's", half_first: true, ..A_5 };
 
 /// In the order in which a unit gets them.
-pub const FIRMWARES: [Firmware; 3] = [DOCUMENT_01, A_2, KEEPER];
+pub const FIRMWARES: [Firmware; 4] = [DOCUMENT_01, A_2, A_5, KEEPER];
 
 impl Firmware {
     /// Those that a unit with this one may be updated to.

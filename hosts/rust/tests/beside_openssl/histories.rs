@@ -3,7 +3,7 @@
 //! up to some cut.
 
 use crate::compare::{ANSWERS, SEEN};
-use crate::firmware::{Firmware, A_2, DOCUMENT_01, KEEPER};
+use crate::firmware::{Firmware, A_2, A_5, DOCUMENT_01, KEEPER};
 use crate::history::{Event, History, Twist};
 use crate::layout::{Form, LARGEST_PACKET};
 use crate::operations::Operation;
@@ -36,10 +36,11 @@ fn histories() {
     }
 }
 
-/// What A.2 and A.5 add and no answer shows by itself, in the order of the alphabet.
-const TO_BE_SEEN: [&str; 11] = [
+/// What A.2, A.5 and A.6 add and no answer shows by itself, in the order of the alphabet.
+const TO_BE_SEEN: [&str; 15] = [
     "13 before the resealing's 4",
     "13 for the older form",
+    "13 though the nonce is used",
     "4 for a resealing that outgrows the half",
     "8 for a session of the older form",
     "a part of 32,768 bytes resumed",
@@ -47,8 +48,11 @@ const TO_BE_SEEN: [&str; 11] = [
     "restarts set to 0",
     "the older form resealed",
     "updated from A.2's firmware to A.5's",
+    "updated from A.2's firmware to A.6's",
+    "updated from A.5's firmware to A.6's",
     "updated from document 01's firmware to A.2's",
     "updated from document 01's firmware to A.5's",
+    "updated from document 01's firmware to A.6's",
 ];
 
 /// Every answer that the documents have for each call, 14 for a job buffer of a wrong length included.
@@ -67,7 +71,7 @@ fn every_answer() -> Vec<(Operation, u32)> {
 
 fn generated(seed: u64) -> History {
     let mut random = Random::new(seed);
-    let firmware = random.pick(&[DOCUMENT_01, DOCUMENT_01, A_2, KEEPER, KEEPER, KEEPER]);
+    let firmware = random.pick(&[DOCUMENT_01, DOCUMENT_01, A_2, A_5, KEEPER, KEEPER, KEEPER, KEEPER]);
     let largest = firmware.form.empty() + 2 * firmware.part_limit;
     let setup = match random.below(60) {
         // Long checkpoints and memories of the largest size are slow, so they are few.

@@ -1,7 +1,7 @@
 //! Histories: what happens to a unit, event by event, and calls with something wrong among them.
 
 use crate::compare::{call, saw};
-use crate::firmware::{Firmware, A_2, DOCUMENT_01, KEEPER};
+use crate::firmware::{Firmware, A_2, A_5, DOCUMENT_01, KEEPER};
 use crate::layout::{half_of, read_ring, record, word, Checkpoint, Form, Newest, Reading};
 use crate::operations::*;
 use crate::random::Random;
@@ -139,8 +139,11 @@ impl Event {
                 if unit.firmware.later().contains(&firmware) {
                     saw(match (unit.firmware, firmware) {
                         (DOCUMENT_01, A_2) => "updated from document 01's firmware to A.2's",
-                        (DOCUMENT_01, _) => "updated from document 01's firmware to A.5's",
-                        _ => "updated from A.2's firmware to A.5's",
+                        (DOCUMENT_01, A_5) => "updated from document 01's firmware to A.5's",
+                        (DOCUMENT_01, _) => "updated from document 01's firmware to A.6's",
+                        (A_2, A_5) => "updated from A.2's firmware to A.5's",
+                        (A_2, _) => "updated from A.2's firmware to A.6's",
+                        _ => "updated from A.5's firmware to A.6's",
                     });
                     unit.update(firmware);
                 }

@@ -3,7 +3,7 @@
 //! it short."
 
 use crate::by_hand::*;
-use crate::firmware::{Firmware, A_2, DOCUMENT_01, FIRMWARES, KEEPER};
+use crate::firmware::{Firmware, A_2, DOCUMENT_01, KEEPER};
 use crate::layout::{half_of, record, tag_of, word, Checkpoint, Form};
 use crate::openssl;
 use crate::operations::*;
@@ -12,6 +12,8 @@ use crate::unit::stopped;
 use std::rc::Rc;
 
 const OLDER: [Firmware; 2] = [DOCUMENT_01, A_2];
+
+const EACH: [Firmware; 3] = [DOCUMENT_01, A_2, KEEPER];
 
 const KEY: [u8; 32] = [0x5B; 32];
 
@@ -48,9 +50,9 @@ fn answered_by(firmware: Firmware, operation: Operation, lent: &Lent) -> u32 {
     answer
 }
 
-/// What each firmware, in their order, answers to a power-up and to a look.
+/// What both older firmwares and the keeper's, in their order, answer to a power-up and to a look.
 fn read_by_each(lent: &Lent) -> [(u32, u32); 3] {
-    FIRMWARES.map(|firmware| {
+    EACH.map(|firmware| {
         let [power_up, look] = [Operation::PowerUp, Operation::Look].map(|call| answered_by(firmware, call, lent));
         (power_up, look)
     })

@@ -1,5 +1,5 @@
-//! Document 01, "What the unit calls" and "Stops, by the place of checking", with document 02's A.2 and A.5: what each call
-//! of a firmware answers and leaves. Jobs and sessions are the bytes that the calls for C lay down.
+//! Document 01, "What the unit calls" and "Stops, by the place of checking", with document 02's A.2, A.5 and A.6: what each
+//! call of a firmware answers and leaves. Jobs and sessions are the bytes that the calls for C lay down.
 
 use crate::firmware::Firmware;
 use crate::layout::*;
@@ -131,10 +131,12 @@ fn power_up(firmware: Firmware, c: &mut Lent) -> Answer {
     stop_if(c.key.len() != 32 || c.nonce.len() != 12, 3)?;
     stop_if(staging_short(c) || c.state.len() < firmware.part_limit, 4)?;
     let newest = newest_record(c)?;
-    stop_if(newest.nonces.iter().any(|used| used[..] == c.nonce), 10)?;
+    let used = newest.nonces.iter().any(|used| used[..] == c.nonce);
+    stop_if(used && !firmware.half_first, 10)?;
     let (opened, tag) = open_half(firmware, half_of(&c.fram, newest.half), &c.key, &newest.record[..12])?;
     stop_if(opened.restarts == 8, 13)?;
-    // "a resealing that outgrows the half gives 4, after 13"
+    stop_if(used, 10)?;
+    // "a resealing that outgrows the half gives 4, after 13"; A.6: "the resealing's 4 goes after 10"
     stop_if(opened.length_in(firmware.form) > c.fram.len() / 2, 4)?;
     stop_if(c.job.len() != job_length(firmware.form), 14)?;
     Rc::make_mut(&mut c.state)[..opened.secret.len()].copy_from_slice(&opened.secret);

@@ -282,15 +282,16 @@ fn written_by_hand() {
             vec![first_save(1), first_save(2), save(3), power_up(3), save(4), cut(3), first_save(5), save(6)],
             vec![R1, "refused 5", R2, "refused 10", R3, "refused 5", "refused 8"],
         ),
-        // Eight restarts, and a save with a newer packet number.
+        // Eight restarts, with a new nonce and with the newest one, and a save with a newer packet number.
         (
-            [vec![first_save(1)], restarts.clone(), vec![power_up(10), save(11), power_up(12)]].concat(),
-            [eight.to_vec(), vec!["refused 13", R4, R5]].concat(),
+            [vec![first_save(1)], restarts.clone(), vec![power_up(10), power_up(9), save(9), save(11), power_up(12)]]
+                .concat(),
+            [eight.to_vec(), vec!["refused 13", "refused 13", "refused 10", R4, R5]].concat(),
         ),
         // A save with an older packet number leaves the restarts.
         (
-            [vec![first_save(50)], restarts, vec![save(49), power_up(12)]].concat(),
-            [eight.to_vec(), vec![R4, "refused 13"]].concat(),
+            [vec![first_save(50)], restarts, vec![save(49), power_up(12), power_up(49)]].concat(),
+            [eight.to_vec(), vec![R4, "refused 13", "refused 13"]].concat(),
         ),
     ];
     for (words, lines) in traces {

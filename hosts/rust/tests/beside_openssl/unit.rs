@@ -412,7 +412,21 @@ impl Unit {
         if self.firmware != KEEPER {
             unit.look().map_err(|words| format!("a look at this point: {words}"))?;
         }
+        unit.power_up_with_a_used_nonce().map_err(|words| format!("a power-up with a used nonce: {words}"))?;
         unit.power_up_to_the_end().map_err(|words| format!("a power-up at this point: {words}"))
+    }
+
+    /// A.6: a power-up with the nonce of the newest record. A unit that is worn answers 13 all the same.
+    fn power_up_with_a_used_nonce(&mut self) -> Result<(), String> {
+        let Some(entry) = &self.book.entry else { return Ok(()) };
+        self.lent.nonce = entry.nonce.to_vec();
+        let expected = if self.book.power_ups == 8 { 13 } else { 10 };
+        let answer = self.call(Operation::PowerUp)?;
+        check(answer == expected, || format!("it answers {answer}, not {expected}"))?;
+        if answer == 13 {
+            saw("13 though the nonce is used");
+        }
+        Ok(())
     }
 
     /// A power-up which, if it is not to stop, resumes the entry: "Of one advance for each store to come, with only

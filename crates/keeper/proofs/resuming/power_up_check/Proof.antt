@@ -5,10 +5,11 @@ use native.Mathlib.Omega.{arith}
 use borrow.Author.Needs.{needs}
 use Rattle.stops.specs.Stops.{first-of}
 use Rattle.stops.specs.View.{check-number}
-use Rattle.ring.specs.Ring.{Newest, read-ring, newest-record, half-named}
+use Rattle.ring.specs.Ring.{Newest, read-ring, newest-record, nonce-used, half-named}
 use Rattle.protocol.specs.Calls.{PowersUp}
 use Rattle.keeper.specs.View.{powers-up}
-use Rattle.keeper.specs.Stages.{power-up-buffers, power-up-ring}
+use Rattle.memories.specs.Stages.{of-newest}
+use Rattle.keeper.specs.Stages.{power-up-buffers}
 use Rattle.keeper.proofs.PowerUpLaws.{Buffers, buffers-pass, buffers-stop, ring-stop, on-record, names-half}
 use Rattle.keeper.proofs.resuming.power_up_check.Statement.{statement}
 use Rattle.keeper.proofs.resuming.power_up_check.Tie as tie
@@ -25,27 +26,25 @@ buffers-none c = sym (c .before .before .check-power-up-buffers .ensures) ∙ ap
 buffers : (c : tie.After-enum-told) → let b = c .before .before in Buffers (start b .args .ring .now) (start b .args .fram .now) (call b)
 buffers c = let b = c .before .before in buffers-pass (start b .args .ring .now) (start b .args .fram .now) (call b) (buffers-none c)
 
-ring-check : (c : tie.After-check-power-up-ring) → let a = start (c .before .before .before .before) .args in
-    check-number (c .check-power-up-ring .result) ≡ first-of (power-up-ring (a .ring .now) (a .slots) (read-ring (a .ring .now) (a .pages) (a .slots)) (a .nonce .now))
-ring-check c =
-    let a = start (c .before .before .before .before) .args in
-    c .check-power-up-ring .ensures ∙ ap (λ (n : Newest). first-of (power-up-ring (a .ring .now) (a .slots) n (a .nonce .now))) (c .before .read-ring .ensures .0)
+ring-check : (c : tie.After-check-newest) → let a = start (c .before .before .before .before) .args in
+    check-number (c .check-newest .result) ≡ first-of (of-newest (read-ring (a .ring .now) (a .pages) (a .slots)))
+ring-check c = c .check-newest .ensures ∙ ap (λ (n : Newest). first-of (of-newest n)) (c .before .read-ring .ensures .0)
 
 ring-none : (c : tie.After-enum-told2) → let a = start (c .before .before .before .before .before .before) .args in
-    first-of (power-up-ring (a .ring .now) (a .slots) (read-ring (a .ring .now) (a .pages) (a .slots)) (a .nonce .now)) ≡ none
+    first-of (of-newest (read-ring (a .ring .now) (a .pages) (a .slots))) ≡ none
 ring-none c = sym (ring-check (c .before .before)) ∙ ap check-number (c .enum-told2 .given .1)
 
-record-is : (c : tie.After-record) → let a = start (c .before .before .before .before .before .before .before) .args in
+record-is : (c : tie.After-record) → let a = start (c .before .before .before .before .before .before .before .before) .args in
     c .«record» .result .now ≡ newest-record (a .ring .now) (a .slots) (read-ring (a .ring .now) (a .pages) (a .slots))
 record-is c =
-    let a = start (c .before .before .before .before .before .before .before) .args in
-    c .«record» .ensures .0 ∙ ap (newest-record (a .ring .now) (a .slots)) (c .before .before .before .before .read-ring .ensures .0)
+    let a = start (c .before .before .before .before .before .before .before .before) .args in
+    c .«record» .ensures .0 ∙ ap (newest-record (a .ring .now) (a .slots)) (c .before .before .before .before .before .read-ring .ensures .0)
 
 check-power-up-half-requires : tie.Need-check-power-up-half-requires
 check-power-up-half-requires c κs =
-    let b = c .before .before .before .before .before .before .before in
-    let f = buffers (c .before .before .before .before .before) in
-    let named = names-half (start b .args .ring .now) (start b .args .fram .now) (call b) (f .ring-right) (ring-none (c .before)) in
+    let b = c .before .before .before .before .before .before .before .before in
+    let f = buffers (c .before .before .before .before .before .before) in
+    let named = names-half (start b .args .ring .now) (start b .args .fram .now) (call b) (f .ring-right) (ring-none (c .before .before)) in
     (f .fram-right, f .key, c .«record» .ensures .1, omega (arith, named, ap half-named (record-is c)))
 
 returns : tie.Need-returns
@@ -60,9 +59,11 @@ returns-2 c =
 
 returns-3 : tie.Need-returns-3
 returns-3 c =
-    let b = c .before .before .before .before .before .before .before .before in
+    let b = c .before .before .before .before .before .before .before .before .before in
+    let a = start b .args in
+    let used = c .before .before .nonce-used .ensures ∙ ap (λ (n : Newest). nonce-used (a .ring .now) (a .slots) n (a .nonce .now)) (c .before .before .before .before .before .before .read-ring .ensures .0) in
     c .check-power-up-half .ensures
-    ∙ sym (on-record (start b .args .ring .now) (start b .args .fram .now) (call b) _ (record-is (c .before)) (buffers-none (c .before .before .before .before .before .before)) (ring-none (c .before .before)))
+    ∙ sym (on-record (a .ring .now) (a .fram .now) (call b) _ _ (record-is (c .before)) used (buffers-none (c .before .before .before .before .before .before .before)) (ring-none (c .before .before .before)))
 
 pub power-up-check-spec : {M : Type 1} → statement M
 power-up-check-spec =
@@ -72,10 +73,11 @@ power-up-check-spec =
     (λ c. search needs)
     (λ c. search needs)
     (λ c κs. buffers c .ring-right)
-    (λ c κs. (buffers (c .before) .ring-right, c .read-ring .ensures .1))
+    (λ c κs. search needs)
     (λ c. search needs)
     (λ c. search needs)
     (λ c κs. (buffers (c .before .before .before .before) .ring-right, c .before .before .before .read-ring .ensures .1))
+    (λ c κs. (buffers (c .before .before .before .before .before) .ring-right, c .before .before .before .before .read-ring .ensures .1))
     check-power-up-half-requires
     returns
     returns-2

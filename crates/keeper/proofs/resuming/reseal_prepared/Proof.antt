@@ -1,25 +1,25 @@
 -- `keeper::resuming::reseal_prepared` meets its contract. Assumes nothing.
 use mathlib.Core.Path.{_≡_, refl, sym, ap, _∙_}
+use mathlib.Core.Bool.{Bool}
 use mathlib.Core.List.{List}
 use Prim.Native.Nat.{ℕ}
 use borrow.Author.Needs.{needs}
 use Rattle.stops.specs.Stops.{first-of}
+use Rattle.stops.proofs.Laws.{passes}
 use Rattle.stops.specs.View.{check-number}
 use Rattle.aes.specs.Cipher.{cipher, aes}
-use Rattle.keeper.specs.Stages.{half-lines}
-use Rattle.keeper.proofs.ResumeLaws.{stopped-not-none, half-tried, tag-passes, not-stopped, restarts-below}
+use Rattle.checkpoint.specs.Half.{form-of, good-tag}
+use Rattle.keeper.specs.Stages.{opening-lines}
+use Rattle.keeper.proofs.ResumeLaws.{stopped-not-none, tag-passes, restarts-below}
 use Rattle.keeper.proofs.resuming.reseal_prepared.Statement.{statement}
 use Rattle.keeper.proofs.resuming.reseal_prepared.Tie as tie
 
-abbrev start : tie.After-stop-if3 → tie.Start
-start c = c .before .before .before .before .before .before .before .before .before .before .before
+abbrev start : tie.After-check-opening → tie.Start
+start c = c .before .before .before .before .before .before .before
 
-checked : (c : tie.After-stop-if3) (key : List ℕ) → (let a = start c .args in cipher (a .rounds) (a .keys .now) ≡ aes key)
-    → (let a = start c .args in check-number (c .stop-if3 .result) ≡ first-of (half-lines key (a .latest .now) (a .half .now)))
-checked c key e =
-    let a = start c .args in
-    half-tried key (a .latest .now) (a .half .now) _ _ _ _ _ _ (c .before .before .before .before .before .good-tag .ensures key e) (start c .pre .4 .restarts) (c .before .outgrows .ensures)
-    (c .before .before .before .before .stop-if .ensures) (c .before .before .stop-if2 .ensures) (c .stop-if3 .ensures)
+checked : (c : tie.After-check-opening) (key : List ℕ) → (let a = start c .args in cipher (a .rounds) (a .keys .now) ≡ aes key)
+    → (let a = start c .args in check-number (c .check-opening .result) ≡ first-of (opening-lines (a .half .now) (good-tag (form-of (a .half .now)) key (a .latest .now) (a .half .now)) (a .used)))
+checked c key e = c .check-opening .ensures ∙ ap (λ (g : Bool). first-of (opening-lines (start c .args .half .now) g (start c .args .used))) (c .before .good-tag .ensures key e)
 
 good-tag-requires : tie.Need-good-tag-requires
 good-tag-requires c κs = let p = c .before .before .before .before .before .pre in (p .0, p .1, p .3, p .4 .start, p .4 .open-part, p .4 .secret)
@@ -28,10 +28,8 @@ reopen-requires : tie.Need-reopen-requires
 reopen-requires c κs =
     let s = start (c .before .before .before .before) in
     let p = s .pre in
-    let told = ap check-number (c .before .before .enum-told .given .1) in
-    let small = not-stopped _ 4 _ (sym (c .before .before .before .before .stop-if3 .ensures) ∙ told) in
-    let few = not-stopped (check-number (c .before .before .before .before .before .before .before .before .stop-if .result)) 13 _ (sym (c .before .before .before .before .before .before .stop-if2 .ensures) ∙ small .0) in
-    (p .0, p .1, p .2, p .3, p .4, restarts-below (s .args .half .now) _ (p .3) (p .4 .restarts) (few .1), sym (c .before .before .before .before .before .outgrows .ensures) ∙ small .1, p .5, p .6)
+    let lines = passes _ (sym (c .before .before .before .before .check-opening .ensures) ∙ ap check-number (c .before .before .enum-told .given .1)) in
+    (p .0, p .1, p .2, p .3, p .4, restarts-below (s .args .half .now) _ (p .3) (p .4 .restarts) (lines .1 .0), lines .1 .1 .1 .0, p .5, p .6)
 
 returns : tie.Need-returns
 returns c key e =
@@ -42,17 +40,14 @@ returns-2 c key e =
     let told = ap check-number (c .before .before .before .before .before .before .before .enum-told .given .1) in
     let all = sym told ∙ checked (c .before .before .before .before .before .before .before .before .before) key e in
     let a = start (c .before .before .before .before .before .before .before .before .before) .args in
-    record { check = all; stops = λ n. stopped-not-none (sym n); begins = λ n. c .before .before .before .before .reopen .ensures key e (tag-passes key (a .latest .now) (a .half .now) (sym all)) }
+    record { check = all; stops = λ n. stopped-not-none (sym n); begins = λ n. c .before .before .before .before .reopen .ensures key e (tag-passes (a .half .now) _ (a .used) (sym all)) }
 
 pub reseal-prepared-spec : {M : Type 1} → statement M
 reseal-prepared-spec =
     tie.close
     (tie.spec
     good-tag-requires
-    (λ c κs. search needs)
-    (λ c κs. search needs)
-    (λ c κs. search needs)
-    (λ c κs. search needs)
+    (λ c κs. c .before .before .before .before .before .before .pre .4)
     (λ c. search needs)
     (λ c. search needs)
     reopen-requires

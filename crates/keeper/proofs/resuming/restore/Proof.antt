@@ -11,17 +11,17 @@ use Rattle.keeper.proofs.ResumeLaws.{restore-stops, restore-begins}
 use Rattle.keeper.proofs.resuming.restore.Statement.{statement}
 use Rattle.keeper.proofs.resuming.restore.Tie as tie
 
-add-t23 : tie.Need-add-t23
-add-t23 c = let s = c .before .before .before .before .before .before .before .before .before .before .before .before .before .before .before .before .before in omega (arith, s .pre .4 .open-part, head-facts part-limit (form-of (s .args .half .now)) (s .args .half .now) (s .pre .3) .open-small)
-
 add-t24 : tie.Need-add-t24
-add-t24 c =
+add-t24 c = let s = c .before .before .before .before .before .before .before .before .before .before .before .before .before .before .before .before .before in omega (arith, s .pre .4 .open-part, head-facts part-limit (form-of (s .args .half .now)) (s .args .half .now) (s .pre .3) .open-small)
+
+add-t25 : tie.Need-add-t25
+add-t25 c =
     let s = c .before .before .before .before .before .before .before .before .before .before .before .before .before .before .before .before .before .before in
     let f = head-facts part-limit (form-of (s .args .half .now)) (s .args .half .now) (s .pre .3) in
     omega (arith, s .pre .4 .open-part, s .pre .4 .secret, f .open-small, f .secret-small)
 
-add-t26 : tie.Need-add-t26
-add-t26 c =
+add-t27 : tie.Need-add-t27
+add-t27 c =
     let s = c .before .before .before .before .before .before .before .before .before .before .before .before .before .before .before .before .before .before .before .before in
     omega (arith, s .pre .4 .restarts, head-facts part-limit (form-of (s .args .half .now)) (s .args .half .now) (s .pre .3) .restarts-small)
 
@@ -51,10 +51,10 @@ restore-spec =
     (λ c. search needs)
     (λ c κs. search needs)
     (λ c. search needs)
-    add-t23
     add-t24
+    add-t25
     (λ c κs. search needs)
-    add-t26
+    add-t27
     (λ c. search needs)
     (λ c. search needs)
     returns

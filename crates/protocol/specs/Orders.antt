@@ -1,0 +1,69 @@
+-- The two orders of a power-up's stops (document 02, A.6). Document 01 tries 10, a used nonce, before 11, 12 and 13, which are about the half;
+-- from A.6 on these three go first.
+use Prim.Native.Nat.{ℕ, _≤_}
+use mathlib.Core.Path.{_≡_}
+use mathlib.Core.Bool.{true}
+use mathlib.Core.Option.{none, some}
+use mathlib.Core.List.{List}
+use mathlib.Core.Logic.{_↔_}
+use lib.ListN.{length}
+use Rattle.octets.specs.Limits.{restart-limit, nonce-length}
+use Rattle.octets.specs.Octets.{blank}
+use Rattle.stops.specs.Stops.{first-of}
+use Rattle.ring.specs.Ring.{nonce-used}
+use Rattle.checkpoint.specs.Fram.{half-length}
+use Rattle.protocol.specs.Types.{Order, NonceFirst, HalfFirst, Firmware, Stopped}
+use Rattle.protocol.specs.Calls.{PowersUp, Setup, Event}
+use Rattle.protocol.specs.Operations.{newest-in, half-lines, power-up-stop, power-up}
+use Rattle.protocol.specs.History.{State, fresh, run, Allowed}
+use Rattle.protocol.specs.Recovery.{Started, Fits}
+
+-- ---- the orders compared
+
+-- a firmware with an order
+abbrev pub ordered : Order → Firmware → Firmware
+ordered order f =
+    record { form = f .form; order = order; longest-part = f .longest-part; largest-fram = f .largest-fram; fits-word = f .fits-word }
+
+-- 10 holds, nothing that goes before it does, and x is the lowest of 11, 12 and 13 that holds as well
+abbrev pub Together : Firmware → (ring fram : List ℕ) → PowersUp → ℕ → Type 0
+Together firmware ring fram a x =
+    (power-up-stop (ordered NonceFirst firmware) ring fram a ≡ some 10) × (first-of (half-lines firmware ring fram a) ≡ some x)
+
+-- the answers differ exactly where 10 holds together with 11, 12 or 13: there the lowest of those three is given, without a job, and staging
+-- and state are as they were; elsewhere all that a power-up answers and leaves is the same
+pub record Compared (firmware : Firmware) (ring fram : List ℕ) (a : PowersUp) : Type 0 where
+  pub differ : ((x : ℕ) → Together firmware ring fram a x → ⊥)
+      ↔ (power-up (ordered HalfFirst firmware) ring fram a .answer ≡ power-up (ordered NonceFirst firmware) ring fram a .answer)
+  pub same : ((x : ℕ) → Together firmware ring fram a x → ⊥)
+      → power-up (ordered HalfFirst firmware) ring fram a ≡ power-up (ordered NonceFirst firmware) ring fram a
+  pub instead : (x : ℕ) → Together firmware ring fram a x → Started (some x) (power-up (ordered HalfFirst firmware) ring fram a) (a .staging) (a .state)
+
+-- any firmware, with any memories
+unfoldable pub OrdersCompared : Type 0
+OrdersCompared = (firmware : Firmware) (ring fram : List ℕ) (a : PowersUp) → Compared firmware ring fram a
+
+-- ---- after every list, with any nonce
+
+-- as Recovery's last power-up, but with any nonce of 12 bytes
+pub record AnyNonce (u : Setup) (s : State) (a : PowersUp) : Type 0 where
+  pub sizes : a .sizes ≡ u .sizes
+  pub key : a .key ≡ u .key
+  pub nonce-long : length (a .nonce) ≡ nonce-length
+  pub staging : half-length (s .fram) ≤ length (a .staging)
+  pub state : s .firmware .longest-part ≤ length (a .state)
+
+-- 6 and 13 are given as the cut rule says, used nonce or not; 10 exactly if neither is and the nonce is used
+pub record Answers (u : Setup) (s : State) (a : PowersUp) : Type 0 where
+  pub nothing : (power-up (s .firmware) (s .ring) (s .fram) a .answer ≡ Stopped 6) ↔ (s .journal .entry ≡ none)
+  pub worn : (power-up (s .firmware) (s .ring) (s .fram) a .answer ≡ Stopped 13) ↔ (s .journal .power-ups ≡ restart-limit)
+  pub used : (power-up (s .firmware) (s .ring) (s .fram) a .answer ≡ Stopped 10)
+      ↔ ((s .journal .entry ≡ none → ⊥) × (s .journal .power-ups ≡ restart-limit → ⊥)
+      × (nonce-used (s .ring) (u .sizes .slots) (newest-in (s .ring) (u .sizes)) (a .nonce) ≡ true))
+
+unfoldable pub WornWhateverNonce : Type 0
+WornWhateverNonce =
+    (u : Setup) (firmware : Firmware) (ring fram : List ℕ) → blank ring ≡ true
+    → (events : List Event) → Allowed u (fresh firmware ring fram) events
+    → (let s = run u (fresh firmware ring fram) events in
+    Fits u (s .firmware) ring fram → s .firmware .order ≡ HalfFirst → (a : PowersUp) → AnyNonce u s a → Answers u s a)
