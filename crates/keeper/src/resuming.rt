@@ -80,11 +80,13 @@ fn check_opening(half: &[u8], head: Head, good: bool, used: bool) -> Check
     requires { ⌜ HeadOf head (now half) ⌝ }
     ensures { λ r. ⌜ check-number r ≡ first-of (opening-lines (now (half .entry)) good used) ⌝ }
 {
+    let worn = head.restarts == RESTART_LIMIT;
+    let outgrown = outgrows(half, head);
     Check::Pass
         .stop_if(!good, Stop::TagDiffers)
-        .stop_if(head.restarts == RESTART_LIMIT, Stop::RestartLimit)
+        .stop_if(worn, Stop::RestartLimit)
         .stop_if(used, Stop::NonceUsed)
-        .stop_if(outgrows(half, head), Stop::BufferSize)
+        .stop_if(outgrown, Stop::BufferSize)
 }
 
 // Opens the secret part of a half into the front of state, and seals both parts, with one restart more and behind the half's own tag, into

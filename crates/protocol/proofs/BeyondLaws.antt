@@ -1,23 +1,23 @@
 -- Firmware stops with 11 at a checkpoint that is beyond it, where no condition before 11 holds.
 use Prim.Native.Nat.{ℕ}
-use mathlib.Core.Path.{_≡_, refl, sym, ap, subst, _∙_}
-use mathlib.Core.Bool.{Bool, true, false, not, cond}
+use mathlib.Core.Path.{_≡_, sym, ap, subst, _∙_}
+use mathlib.Core.Bool.{true, false, not}
 use mathlib.Core.Logic.{inl, inr}
 use mathlib.Core.Option.{Option, none, some}
 use mathlib.Core.List.{List, [], _∷_, _++_}
-use Rattle.stops.specs.Stops.{first-of}
 use Rattle.ring.specs.Ring.{Newest}
 use Rattle.checkpoint.specs.Checkpoint.{Form, Checkpoint, sealed}
 use Rattle.checkpoint.specs.Half.{read-as, open-length, secret-length, good-head}
 use Rattle.checkpoint.proofs.FramLaws.{an-image}
 use Rattle.checkpoint.proofs.HalfLaws.{read-as-is, open-length-is, secret-length-is, head-refused, unread-refused}
-use Rattle.protocol.specs.Types.{Order, NonceFirst, HalfFirst, Firmware}
+use Rattle.protocol.specs.Types.{Firmware}
 use Rattle.protocol.specs.Calls.{Sizes, FirstSave, PowersUp, Looks, Setup, first-saved, powered-up}
-use Rattle.protocol.specs.Operations.{newest-in, newest-half, first-checkpoint, first-save-stop, in-turn, half-lines, power-up-stop, power-up, look-stop, look-by, look, stretch-by, open-stretch}
+use Rattle.protocol.specs.Operations.{newest-in, newest-half, first-checkpoint, first-save-stop, half-lines, power-up-stop, power-up, look-stop, look-by, look, stretch-by, open-stretch}
 use Rattle.protocol.specs.History.{State, fresh, run, Allowed}
 use Rattle.protocol.specs.Recovery.{Started, Exact}
 use Rattle.protocol.specs.Histories.{to-its-end}
 use Rattle.protocol.specs.Beyond.{Beyond, Held, power-up-at-11, look-at-11, PowerUpRefused, LookRefused, LengthsWhole, BeyondRefused, BeyondAfter, FirstSaveRecorded}
+use Rattle.protocol.proofs.Turns.{ends-there, ends-in-turn, stops, stops-in-turn}
 use Rattle.protocol.proofs.Exact.{exact}
 use Rattle.protocol.proofs.Invariant.{Holds}
 use Rattle.protocol.proofs.Reading.{reads, behind, newest-half-is}
@@ -27,34 +27,6 @@ use Rattle.protocol.proofs.PowerUps.{Entry}
 use Rattle.protocol.proofs.Lists.{hold-run, hold-fresh}
 use Rattle.protocol.proofs.Runs.{recorded-entry}
 use Rattle.protocol.proofs.Histories.{first-save-whole}
-
--- a condition that holds ends the list
-ends-there : (xs ys : List (ℕ × Bool)) (n : ℕ) (b : Bool) → b ≡ true → first-of (xs ++ (n, b) ∷ ys) ≡ first-of (xs ++ (n, true) ∷ [])
-unfolding first-of
-ends-there [] ys n b e = ap (λ (t : Bool). cond t (some n) (first-of ys)) e
-ends-there (x ∷ xs) ys n b e = ap (λ (o : Option ℕ). cond (x .1) (some (x .0)) o) (ends-there xs ys n b e)
-
--- and so does the first of those about the half, in either order
-ends-in-turn : (xs half ys : List (ℕ × Bool)) (nonce : ℕ × Bool) (o : Order) (n : ℕ) (b : Bool) → b ≡ true
-    → first-of (xs ++ (in-turn o nonce ((n, b) ∷ half) ++ ys)) ≡ first-of (xs ++ in-turn o nonce ((n, true) ∷ []))
-unfolding first-of
-ends-in-turn [] half ys nonce NonceFirst n b e = ends-there (nonce ∷ []) (half ++ ys) n b e
-ends-in-turn [] half ys nonce HalfFirst n b e = ap (λ (t : Bool). cond t (some n) (first-of ((half ++ nonce ∷ []) ++ ys))) e
-ends-in-turn (x ∷ xs) half ys nonce o n b e = ap (λ (p : Option ℕ). cond (x .1) (some (x .0)) p) (ends-in-turn xs half ys nonce o n b e)
-
--- so the first is some
-stops : (xs : List (ℕ × Bool)) (n : ℕ) → (x : ℕ) × (first-of (xs ++ (n, true) ∷ []) ≡ some x)
-unfolding first-of
-stops [] n = (n, refl)
-stops ((m, true) ∷ xs) n = (m, refl)
-stops ((m, false) ∷ xs) n = stops xs n
-
-stops-in-turn : (xs : List (ℕ × Bool)) (nonce : ℕ × Bool) (o : Order) (n : ℕ) → (x : ℕ) × (first-of (xs ++ in-turn o nonce ((n, true) ∷ [])) ≡ some x)
-unfolding first-of
-stops-in-turn [] nonce NonceFirst n = stops (nonce ∷ []) n
-stops-in-turn [] nonce HalfFirst n = (n, refl)
-stops-in-turn ((m, true) ∷ xs) nonce o n = (m, refl)
-stops-in-turn ((m, false) ∷ xs) nonce o n = stops-in-turn xs nonce o n
 
 -- beside a stop the numbers don't count
 looked-by : (o p : Option ℕ) (n : ℕ) → o ≡ p → (x : ℕ) × (p ≡ some x) → look-by o n ≡ look-by p 0

@@ -39,7 +39,8 @@ use Rattle.protocol.proofs.FirstSaves.{first-call, first-begun, first-s
 use Rattle.protocol.proofs.Saves.{saving-job, save-begun, save-step}
 use Rattle.protocol.proofs.PowerUps.{Entry, resuming-job, resuming-holds, step-is}
 use Rattle.protocol.proofs.Lists.{hold-fresh}
-use Rattle.protocol.proofs.Recovery.{stop-none, power-up-begins, resealed-long, outcome}
+use Rattle.protocol.proofs.Recovery.{stop-none, power-up-begins, outcome}
+use Rattle.protocol.proofs.LastStops.{resealed-long}
 use Rattle.protocol.proofs.PowerLosses.{hold-updated}
 use Rattle.protocol.proofs.Runs.{Passed, passed-append, Whole, whole, run-append, allowed-append, recorded-entry}
 use Rattle.protocol.proofs.Interrupted.{Owing, lost-in-erase}
@@ -946,7 +947,7 @@ outgrown-at s n k x g h few long =
       state = rw (length-state this-firmware) (omega arith);
     } in
     let o = outcome smallest t inv (numbered-power-up smallest this-firmware n) key-ok framed l in
-    o .outgrown .1 (x .c, x .entry .entry-is, (λ q. omega (arith, x .entry .restarts-are, x .restarts)), rw (resealed-long smallest t inv (numbered-power-up smallest this-firmware n) key-ok framed l (x .c) (x .entry), x .no-open, x .no-secret) (omega (arith, long)))
+    o .outgrown .1 (x .c, x .entry .entry-is, (λ q. omega (arith, x .entry .restarts-are, x .restarts)), rw (resealed-long smallest t (numbered-power-up smallest this-firmware n) (x .c), x .no-open, x .no-secret) (omega (arith, long)))
 
 pub outgrown-example : OutgrownExample
 unfolding OutgrownExample

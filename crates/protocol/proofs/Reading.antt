@@ -9,9 +9,9 @@ use lib.ListN.{length, take, drop}
 use lib.Dec.{ltb}
 use Rattle.octets.specs.Limits.{nonce-length}
 use Rattle.octets.specs.Octets.{same}
-use Rattle.octets.proofs.Laws.{same-equal}
+use Rattle.octets.proofs.Laws.{same-refl, same-equal}
 use Rattle.ring.specs.Ring.{read-ring, half-named, target-page, target-slot, record-of, newest-record, nonce-used, Newest}
-use Rattle.ring.proofs.RingLaws.{any}
+use Rattle.ring.proofs.RingLaws.{last, any}
 use Rattle.ring.proofs.FoundLaws.{found, read-is, record-is, used-is, targets}
 use Rattle.ring.proofs.RecordLaws.{half-named-of, nonce-of-record}
 use Rattle.checkpoint.specs.Checkpoint.{Form, Checkpoint, sealed, sealed-length}
@@ -34,6 +34,16 @@ none-used nonce nonces f (r ∷ rs) k = go (none-used nonce nonces f rs (λ q m.
     go ih true e = absurd (f (subst (λ (n : List ℕ). List·Memᴰ n nonces) (same-equal (take nonce-length r) nonce e) (k r (List·Memᴰ·head refl))))
     go ih false e = rw e ih
 
+-- the nonce of the last record is among those of all
+among-last : (recs : List (List ℕ)) (r nonce : List ℕ) → last recs ≡ r → take nonce-length r ≡ nonce → length nonce ≡ nonce-length → any (λ r. same (take nonce-length r) nonce) recs ≡ true
+among-last [] r nonce e f l = absurd (let n = ap length (ap (take nonce-length) e ∙ f) in omega arith)
+among-last (x ∷ []) r nonce e f l = rw (ap (take nonce-length) e ∙ f, same-refl nonce)
+among-last (x ∷ y ∷ recs) r nonce e f l = go (among-last (y ∷ recs) r nonce e f l) (same (take nonce-length x) nonce)
+  where
+    go : any (λ r. same (take nonce-length r) nonce) (y ∷ recs) ≡ true → (b : Bool) → b || any (λ r. same (take nonce-length r) nonce) (y ∷ recs) ≡ true
+    go ih true = refl
+    go ih false = ih
+
 module _ {u : Setup} {ring fram : List ℕ} {nonces : List (List ℕ)} {entry : Option Checkpoint} {count : ℕ} {owed : Bool} {power-ups : ℕ} {c : Checkpoint}
     (right : Image fram) (r : Recorded u ring fram nonces entry count owed power-ups c) where
   abbrev newest : Newest
@@ -53,6 +63,11 @@ module _ {u : Setup} {ring fram : List ℕ} {nonces : List (List ℕ)} {entry : 
 
   pub new-nonce : (nonce : List ℕ) → (List·Memᴰ nonce nonces → ⊥) → nonce-used ring (u .sizes .slots) newest nonce ≡ false
   new-nonce nonce f = used-is (u .sizes .pages) (u .sizes .slots) ring count (r .recs) owed nonce (r .ringed) ∙ none-used nonce nonces f (r .recs) (r .known)
+
+  pub entry-nonce : nonce-used ring (u .sizes .slots) newest (c .nonce) ≡ true
+  entry-nonce =
+      used-is (u .sizes .pages) (u .sizes .slots) ring count (r .recs) owed (c .nonce) (r .ringed)
+      ∙ among-last (r .recs) (record-of (c .nonce) (half-of count)) (c .nonce) (r .latest) (nonce-of-record (c .nonce) (half-of count) (r .good .nonce-long)) (r .good .nonce-long)
 
   pub target-page-found : target-page (u .sizes .pages) (u .sizes .slots) newest ≡ page-in u (count + 1)
   target-page-found = targets (u .sizes .pages) (u .sizes .slots) ring count (r .recs) owed (r .ringed) .0

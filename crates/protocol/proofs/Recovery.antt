@@ -15,20 +15,19 @@ use Rattle.stops.specs.Stops.{first-of}
 use Rattle.ring.specs.Ring.{ring-wrong, nonce-used}
 use Rattle.checkpoint.proofs.FramLaws.{an-image, wrong-at-any}
 use Rattle.checkpoint.specs.Checkpoint.{Checkpoint, sealed, sealed-length}
-use Rattle.checkpoint.proofs.SealedLaws.{length-sealed, length-own-tag}
 use Rattle.checkpoint.specs.Fram.{fram-wrong, half-length}
-use Rattle.protocol.specs.Types.{Firmware, PowerUp, Begun}
+use Rattle.protocol.specs.Types.{Firmware, PowerUp, Begun, Stopped}
 use Rattle.protocol.specs.Calls.{PowersUp, Setup, Event, powered-up}
 use Rattle.protocol.specs.Operations.{newest-in, Begin, begin, power-up-stop, power-up}
 use Rattle.protocol.specs.Journal.{Store, drafted, stores-of, power-up-draft}
 use Rattle.protocol.specs.History.{State, fresh, step, run, Allowed}
 use Rattle.protocol.specs.Orders.{AnyNonce}
-use Rattle.protocol.specs.Recovery.{Exactly, Fits, Last, answers, Resumes, Outgrown, Outcome, Recovery}
+use Rattle.protocol.specs.Recovery.{start-answer, Exactly, Fits, Last, answers, Resumes, Outgrown, Outcome, Recovery}
 use Rattle.protocol.proofs.Lengths.{after}
 use Rattle.protocol.proofs.Invariant.{draft-of, DurableAt, Untouched, Holds, Ended}
 use Rattle.protocol.proofs.Reading.{reads, new-nonce}
 use Rattle.protocol.proofs.Turns.{new-in-turn}
-use Rattle.protocol.proofs.LastStops.{stop-blank, stop-entry, answer-stopped}
+use Rattle.protocol.proofs.LastStops.{large, resealed-long, answer-is, stop-blank, stop-entry}
 use Rattle.protocol.proofs.Starts.{started}
 use Rattle.protocol.proofs.PowerUps.{power-call, Entry, resuming-job, power-up-is, resuming-holds, step-is}
 use Rattle.protocol.proofs.Lists.{exactly, exactly-uninterrupted, exactly-unfit, hold-fresh}
@@ -45,22 +44,19 @@ module _ (u : Setup) (s : State) (inv : Holds u s) (a : PowersUp) (key-long : le
   abbrev stop : Option ℕ
   stop = power-up-stop (s .firmware) (s .ring) (s .fram) (power-call u a)
 
-  -- the entry sealed anew outgrows the half
-  abbrev large : Checkpoint → Bool
-  large c = ltb (half-length (s .fram)) (sealed-length (s .firmware .form) (length (c .open-part)) (length (c .secret)))
-
   unused : (c : Checkpoint) → Entry u s c → nonce-used (s .ring) (u .sizes .slots) (newest-in (s .ring) (u .sizes)) (a .nonce) ≡ false
   unused c r = rw (reads (inv .fram-right) r) (new-nonce (inv .fram-right) r (a .nonce) (l .nonce-new))
 
   pub stop-recorded : (c : Checkpoint) → Entry u s c
       → stop ≡ cond (eqb (c .restarts) restart-limit) (some 13) (cond (ltb (half-length (s .fram)) (sealed-length (s .firmware .form) (length (c .open-part)) (length (c .secret)))) (some 4) none)
   unfolding first-of
-  stop-recorded c r = stop-entry u s inv a key-long framed any c r ∙ new-in-turn (s .firmware .order) _ _ 10 (unused c r)
+  stop-recorded c r = stop-entry u s inv a key-long framed any (s .firmware .order) c r ∙ new-in-turn (s .firmware .order) _ _ 10 (unused c r)
 
   -- with nothing recorded
   outcome-blank : Untouched (s .ring) (s .journal .entry) (s .journal .count) (s .journal .owed) (s .journal .power-ups) → Outcome u s (power-call u a)
+  unfolding start-answer
   outcome-blank x =
-      let e = answer-stopped u s inv a key-long framed any 6 (stop-blank u s inv a key-long framed any (x .ring-blank)) in
+      let e : power-up (s .firmware) (s .ring) (s .fram) (power-call u a) .answer ≡ Stopped 6 = answer-is (s .firmware) s (power-call u a) (some 6) (stop-blank u s inv a key-long framed any (x .ring-blank)) in
       record {
         nothing = (λ q. x .no-entry, λ q. e);
         worn = (λ q. absurd (let z : _≡_ {A = ℕ} 0 1 = cc in omega arith), λ q. absurd (omega (arith, x .no-power-up)));
@@ -69,8 +65,9 @@ module _ (u : Setup) (s : State) (inv : Holds u s) (a : PowersUp) (key-long : le
       }
 
   outcome-worn : (c : Checkpoint) → Entry u s c → c .restarts ≡ restart-limit → Outcome u s (power-call u a)
+  unfolding start-answer
   outcome-worn c r w =
-      let e = answer-stopped u s inv a key-long framed any 13 (stop-recorded c r ∙ ap (λ (b : Bool). cond b (some 13) (cond (large c) (some 4) none)) (eq-eqb (c .restarts) restart-limit w)) in
+      let e : power-up (s .firmware) (s .ring) (s .fram) (power-call u a) .answer ≡ Stopped 13 = answer-is (s .firmware) s (power-call u a) (some 13) (stop-recorded c r ∙ ap (λ (b : Bool). cond b (some 13) (cond (large s c) (some 4) none)) (eq-eqb (c .restarts) restart-limit w)) in
       let p = r .entry-is in
       record {
         nothing = (λ q. absurd (let z : _≡_ {A = ℕ} 0 1 = cc in omega arith), λ q. absurd (let z : _≡_ {A = ℕ} 0 1 = cc in omega arith));
@@ -79,19 +76,14 @@ module _ (u : Setup) (s : State) (inv : Holds u s) (a : PowersUp) (key-long : le
         resumes = λ c′ q f g. absurd (f (r .restarts-are ∙ w));
       }
 
-  -- the length of the entry sealed anew
-  pub resealed-long : (c : Checkpoint) → Entry u s c
-      → length (sealed (u .key) (power-up-draft (s .firmware .form) (u .key) (a .nonce) c)) ≡ sealed-length (s .firmware .form) (length (c .open-part)) (length (c .secret))
-  unfolding power-up-draft
-  resealed-long c r = length-sealed (u .key) (power-up-draft (s .firmware .form) (u .key) (a .nonce) c) (length-own-tag (u .key) c)
-
   outcome-outgrown : (c : Checkpoint) → Entry u s c → (c .restarts ≡ restart-limit → ⊥)
       → half-length (s .fram) < sealed-length (s .firmware .form) (length (c .open-part)) (length (c .secret)) → Outcome u s (power-call u a)
+  unfolding start-answer
   outcome-outgrown c r few large-one =
-      let w : large c ≡ true = lt-ltb (half-length (s .fram)) (sealed-length (s .firmware .form) (length (c .open-part)) (length (c .secret))) large-one in
-      let e = answer-stopped u s inv a key-long framed any 4 (stop-recorded c r ∙ (λ i. cond (ne-eqb (c .restarts) restart-limit few i) (some 13) (cond (w i) (some 4) none))) in
+      let w : large s c ≡ true = lt-ltb (half-length (s .fram)) (sealed-length (s .firmware .form) (length (c .open-part)) (length (c .secret))) large-one in
+      let e : power-up (s .firmware) (s .ring) (s .fram) (power-call u a) .answer ≡ Stopped 4 = answer-is (s .firmware) s (power-call u a) (some 4) (stop-recorded c r ∙ (λ i. cond (ne-eqb (c .restarts) restart-limit few i) (some 13) (cond (w i) (some 4) none))) in
       let p = r .entry-is in
-      let g : Outgrown u s (power-call u a) c = rw (resealed-long c r) large-one in
+      let g : Outgrown u s (power-call u a) c = rw (resealed-long u s a c) large-one in
       record {
         nothing = (λ q. absurd (let z : _≡_ {A = ℕ} 0 1 = cc in omega arith), λ q. absurd (let z : _≡_ {A = ℕ} 0 1 = cc in omega arith));
         worn = (λ q. absurd (let z : _≡_ {A = ℕ} 0 1 = cc in omega arith), λ q. absurd (few (sym (r .restarts-are) ∙ q)));
@@ -103,7 +95,7 @@ module _ (u : Setup) (s : State) (inv : Holds u s) (a : PowersUp) (key-long : le
       (fits : sealed-length (s .firmware .form) (length (c .open-part)) (length (c .secret)) ≤ half-length (s .fram)) where
     pub stop-none : stop ≡ none
     stop-none =
-        let w : large c ≡ false = le-ltb (half-length (s .fram)) (sealed-length (s .firmware .form) (length (c .open-part)) (length (c .secret))) fits in
+        let w : large s c ≡ false = le-ltb (half-length (s .fram)) (sealed-length (s .firmware .form) (length (c .open-part)) (length (c .secret))) fits in
         stop-recorded c r ∙ (λ i. cond (ne-eqb (c .restarts) restart-limit few i) (some 13) (cond (w i) (some 4) none))
 
     pub power-up-begins : power-up (s .firmware) (s .ring) (s .fram) (power-call u a) ≡ record {
@@ -158,7 +150,7 @@ module _ (u : Setup) (s : State) (inv : Holds u s) (a : PowersUp) (key-long : le
         let p = r .entry-is in
         let z : d ≡ c = cc in
         let k : Outgrown u s (power-call u a) c = subst (λ (y : Checkpoint). Outgrown u s (power-call u a) y) z g in
-        omega (arith, k, resealed-long c r, fits)
+        omega (arith, k, resealed-long u s a c, fits)
 
     outcome-resumes : Outcome u s (power-call u a)
     outcome-resumes =
@@ -174,14 +166,14 @@ module _ (u : Setup) (s : State) (inv : Holds u s) (a : PowersUp) (key-long : le
   pub outcome : Outcome u s (power-call u a)
   outcome = go (inv .durable)
     where
-      cases : (c : Checkpoint) → Entry u s c → (b b′ : Bool) → eqb (c .restarts) restart-limit ≡ b → large c ≡ b′ → Outcome u s (power-call u a)
+      cases : (c : Checkpoint) → Entry u s c → (b b′ : Bool) → eqb (c .restarts) restart-limit ≡ b → large s c ≡ b′ → Outcome u s (power-call u a)
       cases c r true b′ e f = outcome-worn c r (eqb-true (c .restarts) restart-limit e)
       cases c r false true e f = outcome-outgrown c r (eqb-false (c .restarts) restart-limit e) (ltb-true _ _ f)
       cases c r false false e f = outcome-resumes c r (eqb-false (c .restarts) restart-limit e) (ltb-false _ _ f)
 
       go : DurableAt u s (s .ring) (s .fram) (s .journal .owed) → Outcome u s (power-call u a)
       go (inl x) = outcome-blank x
-      go (inr (c, r)) = cases c r (eqb (c .restarts) restart-limit) (large c) refl refl
+      go (inr (c, r)) = cases c r (eqb (c .restarts) restart-limit) (large s c) refl refl
 
 exactly-fresh : (u : Setup) (firmware : Firmware) (ring fram : List ℕ) → blank ring ≡ true → (events : List Event) → Allowed u (fresh firmware ring fram) events
     → (x y : Bool) → ring-wrong (u .sizes .pages) (u .sizes .slots) ring ≡ x → fram-wrong (length fram) fram ≡ y → Exactly u (fresh firmware ring fram) events

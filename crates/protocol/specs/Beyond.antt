@@ -35,7 +35,7 @@ pub record Held (ring fram : List ℕ) (z : Sizes) (c : Checkpoint) : Type 0 whe
   pub behind : List ℕ
   pub there : newest-half ring fram (z .slots) (newest-in ring z) ≡ sealed key c ++ behind
 
--- a power-up's list with 11 for certain, which so ends there
+-- a power-up's list with 11 for certain, where it so ends
 unfoldable pub power-up-at-11 : Firmware → (ring fram : List ℕ) → PowersUp → Option ℕ
 power-up-at-11 firmware ring fram a =
     let n = newest-in ring (a .sizes) in

@@ -1,6 +1,6 @@
 -- What each operation answers and leaves in the lent buffers (document 01, "What the unit calls" and "Stops, by the place of checking", and document 02, A.2, A.5 and A.6).
 -- A stop is the number of the first condition that holds, in a list with a line for each row of the papers that names the operation: rising, but
--- 18 comes right after 4, and a power-up ends in 11, 12, 13, 10 and its second 4 (A.2 and A.6).
+-- 18 comes right after 4, and a power-up's second 4 last (A.2), from A.6 on right after 10, which then goes behind 13.
 -- `firmware` is the unit's, and `form` that of the heads which it writes: at `first-firmware` these are document 01's operations, and the code's
 -- promises are at `this-firmware`.
 use Prim.Native.Nat.{ℕ, _+_, _-_, _*_, _%_}

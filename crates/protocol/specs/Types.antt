@@ -5,7 +5,7 @@ use lib.Dec.{lit≤}
 use Rattle.octets.specs.Limits.{fram-limit, older-fram-limit, part-limit, older-part-limit, part-most}
 use Rattle.checkpoint.specs.Checkpoint.{Form, Older, Longer}
 
--- which stop a power-up tries first: that of a used nonce, or those about the half which the newest record names
+-- which a power-up tries before the other: the stop of a used nonce, or those about the half that the newest record names
 pub data Order : Type 0 where
   NonceFirst : Order
   HalfFirst : Order
