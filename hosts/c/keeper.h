@@ -64,7 +64,7 @@ enum keeper_answer {
     KEEPER_KEY_NONCE_TAG_SIZE = 3,  /* key not 32, nonce not 12 or tag not 16 bytes */
     KEEPER_BUFFER_SIZE = 4,         /* a part not a multiple of 4 bytes, above 32,768, or the checkpoint longer than a half; staging, state,
                                        output or a text buffer too short; a session buffer to be written not 48 bytes; text or associated data
-                                       above 65,536; power-up, last: a checkpoint of the older form does not fit its half in the
+                                       above 65,536; power-up, after 10: a checkpoint of the older form does not fit its half in the
                                        longer one */
     KEEPER_RING_IN_USE = 5,         /* first save: the ring is not blank */
     KEEPER_RING_BLANK = 6,          /* the ring is wholly blank: a new unit, or an erased flash */

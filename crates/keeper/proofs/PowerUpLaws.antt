@@ -22,7 +22,8 @@ use Rattle.protocol.specs.Types.{Phase, PowerUp, this-firmware}
 use Rattle.protocol.specs.Calls.{PowersUp}
 use Rattle.protocol.specs.Operations.{key-wrong, nonce-wrong, staging-wrong, state-wrong, Begin, begin, job-of, resumed, first-phase, newest-half, newest-checkpoint, half-lines, power-up-stop, power-up}
 use Rattle.jobs.specs.Stages.{stopped}
-use Rattle.keeper.specs.Stages.{power-up-buffers, power-up-half, opening-lines}
+use Rattle.keeper.specs.Stages.{power-up-buffers, power-up-half}
+use Rattle.resealing.specs.Stages.{opening-lines}
 
 -- ---- the buffers' conditions tried one after the other
 

@@ -1,4 +1,3 @@
 -- What the code's values stand for.
 pub mod View
 pub mod Stages
-pub mod Resealing

@@ -132,8 +132,7 @@ module _ (u : Setup) (s : State) (inv : Holds u s) (a : PowersUp) (key-long : le
       outgrown false h e f d q =
           let p = r .entry-is in
           let z : d ≡ c = cc in
-          let fits = ltb-false (half-length (s .fram)) (sealed-length (s .firmware .form) (length (c .open-part)) (length (c .secret))) h in
-          (
+          let fits = ltb-false (half-length (s .fram)) (sealed-length (s .firmware .form) (length (c .open-part)) (length (c .secret))) h in (
             λ k. absurd (let g : Outgrown u s (power-call u a) c = subst (λ (y : Checkpoint). Outgrown u s (power-call u a) y) z k in omega (arith, g, resealed-long u s a c, fits)),
             λ k. answer-with false false false e f h,
           )

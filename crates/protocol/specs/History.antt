@@ -1,6 +1,6 @@
 -- Lists of calls and power losses (document 01, "Runs, cuts and the book"; a cut is a power loss): what they leave, and the rules that the papers set for them.
--- At a power loss the unit may get newer firmware (document 02, A.2 and A.5), as often as one likes: `updated-to` is that loss. Where it fell
--- into a store, `lost-in-store` comes right before it.
+-- At a power loss the unit may get other firmware that reads what its own wrote (document 02, A.2, A.5 and A.6), as often as one likes:
+-- `updated-to` is that loss. Where it fell into a store, `lost-in-store` comes right before it.
 use Prim.Native.Nat.{ℕ, _+_, _*_, _≤_}
 use mathlib.Core.Path.{_≡_}
 use mathlib.Core.Logic.{_⊎_}

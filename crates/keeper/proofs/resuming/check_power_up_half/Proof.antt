@@ -12,7 +12,8 @@ use Rattle.stops.specs.Stops.{first-of}
 use Rattle.ring.specs.Ring.{half-named}
 use Rattle.checkpoint.specs.Fram.{half-at}
 use Rattle.checkpoint.specs.Half.{form-of, good-head, good-tag}
-use Rattle.keeper.specs.Stages.{opening-lines, power-up-half}
+use Rattle.resealing.specs.Stages.{opening-lines}
+use Rattle.keeper.specs.Stages.{power-up-half}
 use Rattle.keeper.proofs.PowerUpLaws.{half-long-enough}
 use Rattle.keeper.proofs.resuming.check_power_up_half.Statement.{statement}
 use Rattle.keeper.proofs.resuming.check_power_up_half.Tie as tie

@@ -1,8 +1,8 @@
--- `keeper::resuming::check_opening` meets its contract. Assumes nothing.
+-- `resealing::check_opening` meets its contract. Assumes nothing.
 use borrow.Author.Needs.{needs}
-use Rattle.keeper.proofs.ResumeLaws.{opening-tried}
-use Rattle.keeper.proofs.resuming.check_opening.Statement.{statement}
-use Rattle.keeper.proofs.resuming.check_opening.Tie as tie
+use Rattle.resealing.proofs.Laws.{opening-tried}
+use Rattle.resealing.proofs.check_opening.Statement.{statement}
+use Rattle.resealing.proofs.check_opening.Tie as tie
 
 returns : tie.Need-returns
 returns c =

@@ -1,12 +1,12 @@
--- `keeper::resuming::outgrows` meets its contract. Assumes nothing.
+-- `resealing::outgrows` meets its contract. Assumes nothing.
 use native.Mathlib.Omega.{arith}
 use lib.Dec.{ltb}
 use lib.ListN.{length}
 use Rattle.checkpoint.specs.Checkpoint.{Longer, sealed-length}
 use Rattle.protocol.specs.Operations.{outgrows}
-use Rattle.keeper.proofs.ResumeLaws.{lengths-fit}
-use Rattle.keeper.proofs.resuming.outgrows.Statement.{statement}
-use Rattle.keeper.proofs.resuming.outgrows.Tie as tie
+use Rattle.resealing.proofs.Laws.{lengths-fit}
+use Rattle.resealing.proofs.outgrows.Statement.{statement}
+use Rattle.resealing.proofs.outgrows.Tie as tie
 
 add-result : tie.Need-add-result
 add-result c = let s = c .before in omega (arith, s .pre .open-part, lengths-fit (s .args .half .now))

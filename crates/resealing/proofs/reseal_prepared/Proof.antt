@@ -1,4 +1,4 @@
--- `keeper::resuming::reseal_prepared` meets its contract. Assumes nothing.
+-- `resealing::reseal_prepared` meets its contract. Assumes nothing.
 use mathlib.Core.Path.{_≡_, refl, sym, ap, _∙_}
 use mathlib.Core.Bool.{Bool}
 use mathlib.Core.List.{List}
@@ -9,10 +9,10 @@ use Rattle.stops.proofs.Laws.{passes}
 use Rattle.stops.specs.View.{check-number}
 use Rattle.aes.specs.Cipher.{cipher, aes}
 use Rattle.checkpoint.specs.Half.{form-of, good-tag}
-use Rattle.keeper.specs.Stages.{opening-lines}
-use Rattle.keeper.proofs.ResumeLaws.{stopped-not-none, tag-passes, restarts-below}
-use Rattle.keeper.proofs.resuming.reseal_prepared.Statement.{statement}
-use Rattle.keeper.proofs.resuming.reseal_prepared.Tie as tie
+use Rattle.resealing.specs.Stages.{opening-lines}
+use Rattle.resealing.proofs.Laws.{stopped-not-none, tag-passes, restarts-below}
+use Rattle.resealing.proofs.reseal_prepared.Statement.{statement}
+use Rattle.resealing.proofs.reseal_prepared.Tie as tie
 
 abbrev start : tie.After-check-opening → tie.Start
 start c = c .before .before .before .before .before .before .before

@@ -1,10 +1,10 @@
--- `keeper::resuming::reseal` meets its contract. Assumes nothing.
+-- `resealing::reseal` meets its contract. Assumes nothing.
 use mathlib.Core.Path.{refl}
 use native.Mathlib.Omega.{arith}
 use borrow.Author.Needs.{needs}
 use Rattle.gcm.proofs.Keys.{whole-key, under}
-use Rattle.keeper.proofs.resuming.reseal.Statement.{statement}
-use Rattle.keeper.proofs.resuming.reseal.Tie as tie
+use Rattle.resealing.proofs.reseal.Statement.{statement}
+use Rattle.resealing.proofs.reseal.Tie as tie
 
 reseal-prepared-requires : tie.Need-reseal-prepared-requires
 reseal-prepared-requires c κs =

@@ -7,8 +7,8 @@ use Prim.Native.Nat.{ℕ}
 use Rattle.stops.specs.Stops.{first-of}
 use Rattle.stops.specs.View.{check-number}
 use Rattle.checkpoint.specs.Half.{form-of, good-tag}
-use Rattle.keeper.specs.declared.resuming.Resealed.{Resealed}
-use Rattle.keeper.specs.Stages.{opening-lines, Reseals}
+use Rattle.resealing.specs.declared.Resealed.{Resealed}
+use Rattle.resealing.specs.Stages.{opening-lines, Reseals}
 
 pub record Outcome (key : List ℕ) (r : Resealed) (used : Bool) (latest half nonce staging staging′ state state′ : List ℕ) : Type 0 where
   pub check : check-number (r .check) ≡ first-of (opening-lines half (good-tag (form-of half) key latest half) used)

@@ -1,0 +1,2 @@
+-- Laws of a half opened and sealed anew.
+pub mod Laws
