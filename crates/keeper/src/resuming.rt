@@ -155,7 +155,7 @@ fn check_power_up_half(record: &[u8], fram: &[u8], key: &[u8], used: bool) -> Ch
     Check::Stopped(Stop::BadHead)
 }
 
-// Whether a power-up would stop, by 1 to 4, 6, 7 or 10 to 13. Nothing is stored.
+// Whether a power-up would stop, by 1 to 4, 6, 7, 11 to 13, 10 or 4 again. Nothing is stored.
 pub fn power_up_check(
     pages: usize,
     slots: usize,
@@ -251,7 +251,8 @@ fn power_up_on(
 }
 
 // Opens the newest checkpoint, puts its secret part to the front of state, seals both parts with one restart more into staging and answers
-// the job that stores it, or stops with 1 to 4, 6, 7 or 10 to 13. The state may be used once the job has said 'restored'.
+// the job that stores it, or stops with 1 to 4, 6, 7, 11 to 13, 10 or 4 again. The state may be used once the job has said
+// 'restored'.
 pub fn power_up(
     pages: usize,
     slots: usize,

@@ -63,7 +63,7 @@ module _ (xs half ys : List (ℕ × Bool)) (n : ℕ) where
 -- ---- either order
 
 -- where no condition of two stages holds, none of either does
-pub none-append : (xs ys : List (ℕ × Bool)) → first-of (xs ++ ys) ≡ none → (first-of xs ≡ none) × (first-of ys ≡ none)
+none-append : (xs ys : List (ℕ × Bool)) → first-of (xs ++ ys) ≡ none → (first-of xs ≡ none) × (first-of ys ≡ none)
 unfolding first-of
 none-append [] ys e = (refl, e)
 none-append ((n, true) ∷ xs) ys e = let z : _≡_ {A = ℕ} 0 1 = cc in absurd (omega arith)

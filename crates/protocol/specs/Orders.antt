@@ -85,7 +85,7 @@ WornAndUsed s a =
     → (power-up (ordered NonceFirst (s .firmware)) (s .ring) (s .fram) a .answer ≡ Stopped 10)
     × (power-up (ordered HalfFirst (s .firmware)) (s .ring) (s .fram) a .answer ≡ Stopped 13)
 
--- there are such lists: `Reachable` (Histories.antt)
+-- after every list; some leave a worn unit (`Reachable` in Histories.antt)
 unfoldable pub WornWhateverNonce : Type 0
 WornWhateverNonce =
     (u : Setup) (firmware : Firmware) (ring fram : List ℕ) → blank ring ≡ true

@@ -11,7 +11,7 @@ use Rattle.checkpoint.specs.Checkpoint.{Longer, head-length, sealed, own-tag}
 use Rattle.checkpoint.specs.Half.{form-of, stored-packet, open-length, secret-length, stored-restarts, stored}
 use Rattle.protocol.specs.Operations.{outgrows, resumed}
 
--- those about a half with a good head: whether its tag is good, its restarts, whether the nonce is used, and its length, sealed anew
+-- the stops of a half with a good head: whether its tag is good, its restarts, whether the nonce is used, and its length, sealed anew
 abbrev pub opening-lines : List ℕ → (good used : Bool) → List (ℕ × Bool)
 opening-lines half good used =
     (12, not good) ∷
