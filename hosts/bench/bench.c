@@ -357,8 +357,8 @@ static void next_nonce(void)
 static uint32_t first_save(void)
 {
     next_nonce();
-    return keeper_first_save(pages, slots, ring, ring_len, fram, fram_len, key, 32, fresh, 12, tag, 16, ++heard, aad, part, text, part,
-                             staging, fram_len / 2, job, sizeof job);
+    return keeper_save(pages, slots, ring, ring_len, fram, fram_len, key, 32, fresh, 12, tag, 16, ++heard, aad, part, text, part,
+                       staging, fram_len / 2, job, sizeof job);
 }
 
 static uint32_t save(void)
@@ -677,9 +677,15 @@ static struct {
     uint32_t (*call)(void);
     size_t bytes;
 } depths[] = {
-    {"keeper_seal", seal_largest, 0},         {"keeper_open", open_largest, 0},         {"keeper_wipe", wipe, 0},
-    {"keeper_first_save", first_save, 0},     {"keeper_save", save, 0},                 {"keeper_power_up", power_up, 0},
-    {"keeper_advance", advance, 0},           {"keeper_look", look, 0},                 {"keeper_hex_export", export_largest, 0},
+    {"keeper_seal", seal_largest, 0},
+    {"keeper_open", open_largest, 0},
+    {"keeper_wipe", wipe, 0},
+    {"keeper_save, starting tag", first_save, 0},
+    {"keeper_save, session", save, 0},
+    {"keeper_power_up", power_up, 0},
+    {"keeper_advance", advance, 0},
+    {"keeper_look", look, 0},
+    {"keeper_hex_export", export_largest, 0},
     {"keeper_hex_import", import_largest, 0},
 };
 

@@ -61,18 +61,17 @@ enum keeper_answer {
     KEEPER_DONE = 0,
     KEEPER_RING_SIZE = 1,           /* pages, slots or the ring's length wrong */
     KEEPER_FRAM_SIZE = 2,           /* the length of the FRAM, or of an image to export or import, wrong */
-    KEEPER_KEY_NONCE_TAG_SIZE = 3,  /* key not 32, nonce not 12 or tag not 16 bytes */
+    KEEPER_KEY_NONCE_TAG_SIZE = 3,  /* key not 32, nonce not 12 or tag not 16 bytes; save: `from` neither 16 bytes nor 48 */
     KEEPER_BUFFER_SIZE = 4,         /* a part not a multiple of 4 bytes, above 32,768, or the checkpoint longer than a half; staging, state,
                                        output or a text buffer too short; a session buffer to be written not 48 bytes; text or associated data
                                        above 65,536; power-up, after 10: a checkpoint of the older form does not fit its half in the
                                        longer one */
-    KEEPER_RING_IN_USE = 5,         /* first save: the ring is not blank */
+    KEEPER_RING_IN_USE = 5,         /* save with a starting tag: the ring is not blank */
     KEEPER_RING_BLANK = 6,          /* the ring is wholly blank: a new unit, or an erased flash */
     KEEPER_RING_UNREADABLE = 7,     /* the ring is not readable */
     KEEPER_STALE_SESSION = 8,       /* the session's page, slot or record is not the newest, its restarts are above 8 or its packet number
-                                       above KEEPER_LARGEST_PACKET, or its buffer is not 48 bytes: finish the job that is under way, or
-                                       power up */
-    KEEPER_PAGE_PENDING = 9,        /* save: a page awaits erasing; power up */
+                                       above KEEPER_LARGEST_PACKET: finish the job that is under way, or power up */
+    KEEPER_PAGE_PENDING = 9,        /* save with a session: a page awaits erasing; power up */
     KEEPER_NONCE_USED = 10,         /* the nonce equals one in a record of the newest page: call again with a new one; power-up: after 13,
                                        so that a unit which must not go on says so whatever its nonce */
     KEEPER_BAD_HEAD = 11,           /* a word of the newest checkpoint's head is wrong, or the checkpoint is longer than the half */
@@ -84,7 +83,7 @@ enum keeper_answer {
     KEEPER_BAD_LINE = 15,           /* import: a malformed line, another type than 00, 01 and 04, a line after the end line, or no end line */
     KEEPER_BAD_CHECKSUM = 16,       /* import: a line's checksum is wrong */
     KEEPER_DATA_MISPLACED = 17,     /* import: data outside the image, past a 64 KiB boundary within a line, or not above the data before */
-    KEEPER_PACKET_TOO_LARGE = 18,   /* saves: the packet number is above KEEPER_LARGEST_PACKET; tried right after 4 */
+    KEEPER_PACKET_TOO_LARGE = 18,   /* save: the packet number is above KEEPER_LARGEST_PACKET; tried right after 4 */
 
     KEEPER_GOING_ON = 256,          /* keeper_advance: more stores to come */
     KEEPER_SAVED = 257,             /* keeper_advance: done; a save's checkpoint is the newest */
@@ -132,27 +131,22 @@ uint32_t keeper_open(const uint8_t *key, size_t key_len, const uint8_t *nonce, s
                      const uint8_t *aad, size_t aad_len, const uint8_t *cipher, size_t cipher_len,
                      const uint8_t *tag, size_t tag_len, uint8_t *out, size_t out_len);
 
-/* The unit's first checkpoint, on a blank ring: seals both parts into staging, with restarts 0 and `starting_tag`, 16 random bytes, as the
- * previous tag, and writes the job that stores it. Nothing is recorded until keeper_advance has made the record.
+/* A new checkpoint: seals both parts into staging and writes the job that stores it. Nothing is recorded until keeper_advance has made the
+ * record. `from` says what the checkpoint follows, by its length:
+ * - 16 bytes are a starting tag, random bytes that stand for the tag of a checkpoint before: the unit's first checkpoint, on a blank ring
+ *   alone, with restarts 0, in half A, at page 0, slot 0;
+ * - 48 bytes are the session that the last finished job left; its tag, restarts and packet number are taken as they are. If `packet` is above
+ *   the session's number, it is stored with restarts 0; otherwise the session's number is, with the session's restarts;
+ * - any other length is stop 3.
  * `packet` is the number of the packet last heard, 0 to KEEPER_LARGEST_PACKET; 0 where none was.
  * Parts: multiples of 4 bytes, 0 to 32,768 each; 48 bytes and both parts must fit half the FRAM. Staging: at least half the FRAM; its bytes
  * after the checkpoint keep their contents.
- * Stops: 1 to 4, 18, 5, 14 (the job buffer is not 64 bytes). Cost: one pass over the ring, one sealing.
- */
-uint32_t keeper_first_save(size_t pages, size_t slots, const uint8_t *ring, size_t ring_len,
-                     const uint8_t *fram, size_t fram_len, const uint8_t *key, size_t key_len,
-                     const uint8_t *nonce, size_t nonce_len, const uint8_t *starting_tag, size_t starting_tag_len,
-                     uint32_t packet, const uint8_t *open_part, size_t open_len, const uint8_t *secret, size_t secret_len,
-                     uint8_t *staging, size_t staging_len, uint8_t *job, size_t job_len);
-
-/* The next checkpoint, with the session's tag as the previous one. `session` is the one that the last finished job left; its tag, restarts
- * and packet number are taken as they are. If `packet`, the number of the packet last heard, is above the session's, it is stored with
- * restarts 0; otherwise the session's number is, with the session's restarts. Parts and buffers as for keeper_first_save.
- * Stops: 1 to 4, 18, 6 to 10, 14 (the job buffer is not 64 bytes). Cost: one reading of the ring, one sealing.
+ * Stops: 1 to 4, 18, then 5 with a starting tag or 6 to 10 with a session, then 14 (the job buffer is not 64 bytes). Cost: one pass over the
+ * ring, one sealing.
  */
 uint32_t keeper_save(size_t pages, size_t slots, const uint8_t *ring, size_t ring_len,
                      const uint8_t *fram, size_t fram_len, const uint8_t *key, size_t key_len,
-                     const uint8_t *nonce, size_t nonce_len, const uint8_t *session, size_t session_len,
+                     const uint8_t *nonce, size_t nonce_len, const uint8_t *from, size_t from_len,
                      uint32_t packet, const uint8_t *open_part, size_t open_len, const uint8_t *secret, size_t secret_len,
                      uint8_t *staging, size_t staging_len, uint8_t *job, size_t job_len);
 

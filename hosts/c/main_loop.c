@@ -95,9 +95,41 @@ static void make_durable(const uint8_t *job) {
 
 /* ---- the keeper's calls */
 
+/* A save that follows a starting tag or a session. */
+static uint32_t save_from(const uint8_t *from, size_t from_len) {
+    uint8_t key[KEEPER_KEY_SIZE], nonce[KEEPER_NONCE_SIZE];
+    uint32_t r;
+    int nonces = 0;
+    device_key(key);
+    do {
+        fresh_bytes(nonce, sizeof nonce);
+        r = keeper_save(PAGES, SLOTS, ram.ring, sizeof ram.ring, ram.fram, sizeof ram.fram, key, sizeof key, nonce, sizeof nonce,
+                        from, from_len, ram.heard, ram.state.volume, sizeof ram.state.volume, ram.state.timer, sizeof ram.state.timer,
+                        ram.staging, sizeof ram.staging, ram.job, sizeof ram.job);
+    } while (r == KEEPER_NONCE_USED && ++nonces < NONCES);
+    keeper_wipe(key, sizeof key);
+    ram.storing = r == KEEPER_DONE;
+    return r;
+}
+
+static uint32_t first_save(void) {
+    uint8_t starting_tag[KEEPER_TAG_SIZE];
+    puts("  first save");
+    memset(&ram.state, 0, sizeof ram.state);
+    fresh_bytes(starting_tag, sizeof starting_tag);
+    uint32_t r = save_from(starting_tag, sizeof starting_tag);
+    ram.usable = r == KEEPER_DONE;
+    return r;
+}
+
+static uint32_t save(void) {
+    ram.changed = false;
+    return save_from(ram.session, sizeof ram.session);
+}
+
 /* Every restart begins here. On a blank ring the unit saves for the first time. */
 static uint32_t begin(void) {
-    uint8_t key[KEEPER_KEY_SIZE], nonce[KEEPER_NONCE_SIZE], starting_tag[KEEPER_TAG_SIZE];
+    uint8_t key[KEEPER_KEY_SIZE], nonce[KEEPER_NONCE_SIZE];
     uint32_t r;
     int nonces = 0;
     memcpy(ram.ring, chips.ring, sizeof ram.ring);
@@ -108,36 +140,9 @@ static uint32_t begin(void) {
         r = keeper_power_up(PAGES, SLOTS, ram.ring, sizeof ram.ring, ram.fram, sizeof ram.fram, key, sizeof key, nonce, sizeof nonce,
                             ram.staging, sizeof ram.staging, ram.opened, sizeof ram.opened, ram.job, sizeof ram.job, &ram.opened_len);
     } while (r == KEEPER_NONCE_USED && ++nonces < NONCES);
-    if (r == KEEPER_RING_BLANK) {
-        puts("  first save");
-        memset(&ram.state, 0, sizeof ram.state);
-        fresh_bytes(nonce, sizeof nonce);
-        fresh_bytes(starting_tag, sizeof starting_tag);
-        r = keeper_first_save(PAGES, SLOTS, ram.ring, sizeof ram.ring, ram.fram, sizeof ram.fram, key, sizeof key, nonce, sizeof nonce,
-                              starting_tag, sizeof starting_tag, ram.heard, ram.state.volume, sizeof ram.state.volume, ram.state.timer,
-                              sizeof ram.state.timer, ram.staging, sizeof ram.staging, ram.job, sizeof ram.job);
-        ram.usable = r == KEEPER_DONE;
-    }
     keeper_wipe(key, sizeof key);
     ram.storing = r == KEEPER_DONE;
-    return r;
-}
-
-static uint32_t save(void) {
-    uint8_t key[KEEPER_KEY_SIZE], nonce[KEEPER_NONCE_SIZE];
-    uint32_t r;
-    int nonces = 0;
-    device_key(key);
-    do {
-        fresh_bytes(nonce, sizeof nonce);
-        r = keeper_save(PAGES, SLOTS, ram.ring, sizeof ram.ring, ram.fram, sizeof ram.fram, key, sizeof key, nonce, sizeof nonce,
-                        ram.session, sizeof ram.session, ram.heard, ram.state.volume, sizeof ram.state.volume, ram.state.timer,
-                        sizeof ram.state.timer, ram.staging, sizeof ram.staging, ram.job, sizeof ram.job);
-    } while (r == KEEPER_NONCE_USED && ++nonces < NONCES);
-    keeper_wipe(key, sizeof key);
-    ram.storing = r == KEEPER_DONE;
-    ram.changed = false;
-    return r;
+    return r == KEEPER_RING_BLANK ? first_save() : r;
 }
 
 /* 'restored': takes the secret part from the buffer, and the open part from where it lies in the FRAM. Parts of other lengths are those of

@@ -263,8 +263,8 @@ static void first_save(void)
     undefined(starting_tag, 16);
     undefined(open_part, OPEN);
     undefined(secret, SECRET);
-    need(answer(keeper_first_save(PAGES, SLOTS, ring, RING, fram, sizeof fram, key, 32, nonce, 12, starting_tag, 16, 1, open_part, OPEN, secret,
-                                  SECRET, staging, HALF, job, sizeof job)) == KEEPER_DONE,
+    need(answer(keeper_save(PAGES, SLOTS, ring, RING, fram, sizeof fram, key, 32, nonce, 12, starting_tag, 16, 1, open_part, OPEN, secret,
+                            SECRET, staging, HALF, job, sizeof job)) == KEEPER_DONE,
          "stopped");
     advances(KEEPER_SAVED);
 }
@@ -338,8 +338,8 @@ static const struct {
     {"constant_time_product", products, NOTHING},
     {"constant_time_ghash", hashes, NOTHING},
     {"constant_time_same", comparisons, NOTHING},
-    {"keeper_first_save", first_save, NOTHING},
-    {"keeper_save", save, NOTHING},
+    {"keeper_save with a starting tag", first_save, NOTHING},
+    {"keeper_save with a session", save, NOTHING},
     {"keeper_look", look, ONE_JUMP},
     {"keeper_power_up", power_up, ONE_JUMP},
     {"keeper_seal", seal, NOTHING},

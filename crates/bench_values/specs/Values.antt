@@ -13,8 +13,8 @@ use Rattle.ring.specs.Ring.{Newest, Blank, Unreadable, At, AtPending, is-record
 use Rattle.checkpoint.specs.Checkpoint.{Form, Older, Longer, Checkpoint, head-words, words, sealed}
 use Rattle.checkpoint.specs.Half.{good-head}
 use Rattle.protocol.specs.Types.{Firmware, first-firmware, packet-firmware, larger-firmware, this-firmware, Session}
-use Rattle.protocol.specs.Calls.{sizes}
-use Rattle.protocol.specs.Operations.{session-wrong, save-restarts, larger, first-save-stop, power-up-stop}
+use Rattle.protocol.specs.Calls.{sizes, From, from-tag, from-session}
+use Rattle.protocol.specs.Operations.{session-wrong, save-restarts, larger, save-stop, power-up-stop}
 use Rattle.protocol.specs.Journal.{Journal, stores-of}
 
 -- ---- rings of 3 pages with 2 slots
@@ -112,7 +112,7 @@ stores-after form j = stores (length (stores-of key 2 j (M13 form)))
 
 -- a first save with empty parts, a blank ring and a FRAM of n bytes, which has heard a packet
 abbrev starts : ℕ → ℕ → Value
-starts n packet = stops (first-save-stop this-firmware M1 (replicate n 0) (record {
+starts n packet = stops (save-stop this-firmware M1 (replicate n 0) (record {
   arguments = record {
     sizes = sizes 3 2;
     key = key;
@@ -122,7 +122,7 @@ starts n packet = stops (first-save-stop this-firmware M1 (replicate n 0) (recor
     secret = [];
     staging = replicate n 0;
   };
-  starting-tag = replicate tag-length 0;
+  from = from-tag (replicate tag-length 0);
 }))
 
 -- a session of these restarts and this packet number, and a save with it that has heard a packet
@@ -143,7 +143,7 @@ zeros n = replicate n 0
 
 -- a first save with a blank ring, a FRAM of n bytes and parts of so many
 abbrev saves-parts : Firmware → (n open-part secret : ℕ) → Value
-saves-parts firmware n open-part secret = stops (first-save-stop firmware M1 (zeros n) (record {
+saves-parts firmware n open-part secret = stops (save-stop firmware M1 (zeros n) (record {
   arguments = record {
     sizes = sizes 3 2;
     key = key;
@@ -153,7 +153,7 @@ saves-parts firmware n open-part secret = stops (first-save-stop firmware M1 (ze
     secret = zeros secret;
     staging = zeros n;
   };
-  starting-tag = replicate tag-length 0;
+  from = from-tag (replicate tag-length 0);
 }))
 
 -- a power-up with a blank ring, a FRAM of 96 bytes and a state buffer of n
@@ -245,8 +245,48 @@ orders =
     (powers-up-with larger-firmware 1, stops (some 11)) ∷
     (powers-up-with this-firmware 1, stops (some 11)) ∷ []
 
+-- ---- the one save of document 02, A.7
+
+-- a save with empty parts, a FRAM of 96 bytes and a nonce of bytes b
+abbrev follows : (ring : List ℕ) → From → ℕ → Value
+follows ring from b = stops (save-stop this-firmware ring (replicate 96 0) (record {
+  arguments = record {
+    sizes = sizes 3 2;
+    key = key;
+    nonce = replicate nonce-length b;
+    packet = 0;
+    open-part = [];
+    secret = [];
+    staging = zeros 96;
+  };
+  from = from;
+}))
+
+-- a starting tag of n bytes, and a session of the record R in a slot
+abbrev tag-of : ℕ → From
+tag-of n = from-tag (replicate n 0)
+
+abbrev session-at : (page slot : ℕ) → From
+session-at page slot = from-session (record { page = page; slot = slot; latest = R; tag = replicate tag-length 0; restarts = 0; packet = 0 })
+
+abbrev pub one-save : List (Value × Value)
+one-save =
+    (follows M1 (tag-of 16) 0, stops none) ∷
+    (follows M1 (tag-of 15) 0, stops (some 3)) ∷
+    (follows M1 (tag-of 17) 0, stops (some 3)) ∷
+    (follows M2 (tag-of 16) 1, stops (some 5)) ∷
+    (follows M2 (tag-of 15) 1, stops (some 3)) ∷
+    (follows M4 (tag-of 16) 1, stops (some 5)) ∷
+    (follows M7 (tag-of 16) 1, stops (some 5)) ∷
+    (follows M1 (session-at 0 0) 1, stops (some 6)) ∷
+    (follows M7 (session-at 1 1) 1, stops (some 7)) ∷
+    (follows M3 (session-at 0 0) 1, stops (some 8)) ∷
+    (follows M4 (session-at 1 0) 1, stops (some 9)) ∷
+    (follows M3 (session-at 0 1) 0, stops (some 10)) ∷
+    (follows M3 (session-at 0 1) 1, stops none) ∷ []
+
 abbrev pub Agree : List (Value × Value) → Type 0
 Agree rows = map (λ v. v .0) rows ≡ map (λ v. v .1) rows
 
 unfoldable pub Values : Type 0
-Values = Agree table × Agree orders
+Values = Agree table × Agree orders × Agree one-save

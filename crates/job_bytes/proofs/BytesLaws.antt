@@ -4,7 +4,7 @@ use mathlib.Core.Path.{_≡_, refl, ap, ap₂, _∙_}
 use mathlib.Core.Bool.{Bool, true, false, not, _||_}
 use mathlib.Core.List.{List, [], _∷_, _++_}
 use native.Mathlib.Omega.{arith}
-use borrow.Author.Tests.{eqb-true, eq-eqb, ne-eqb, not-false}
+use borrow.Author.Tests.{eqb-true, not-false}
 use lib.Dec.{eqb}
 use lib.ListN.{length}
 use Rattle.octets.specs.Limits.{nonce-length, slot-length, tag-length}
@@ -15,7 +15,7 @@ use Rattle.octets.proofs.Numbers.{length-bytes}
 use Rattle.octets.proofs.Lent.{Front, front-on, front-whole}
 use Rattle.stops.proofs.Laws.{neither}
 use Rattle.protocol.specs.Types.{Phase, Origin, Job, Session}
-use Rattle.protocol.specs.Operations.{no-job, no-session}
+use Rattle.protocol.specs.Operations.{no-job}
 use Rattle.job_bytes.specs.Bytes.{job-length, session-length, word-of, phase-number, phase-place, origin-number, job-words, job-bytes, session-bytes, phase-of, origin-of, unknown, no-job-in, job-in, session-in}
 
 -- a buffer that holds a job is as long as one
@@ -46,23 +46,18 @@ module _ (b : List ℕ) where
   read-job e phase origin half long page slot nonce tag restarts packet p o h l g s n t r k =
       rw e (λ i. record { phase = p i; origin = o i; half = h i; length = l i; page = g i; slot = s i; nonce = n i; tag = t i; restarts = r i; packet = k i })
 
-  pub read-session : length b ≡ session-length → (page slot : ℕ) (latest tag : List ℕ) (restarts packet : ℕ)
+  pub read-session : (page slot : ℕ) (latest tag : List ℕ) (restarts packet : ℕ)
       → page ≡ word-at b 0 → slot ≡ word-at b 4 → latest ≡ part b 8 slot-length → tag ≡ part b 24 tag-length → restarts ≡ word-at b 40 → packet ≡ word-at b 44
       → record { page = page; slot = slot; latest = latest; tag = tag; restarts = restarts; packet = packet } ≡ session-in b
   unfolding session-in
-  read-session e page slot latest tag restarts packet g s n t r k =
-      rw (eq-eqb (length b) session-length e) (λ i. record { page = g i; slot = s i; latest = n i; tag = t i; restarts = r i; packet = k i })
+  read-session page slot latest tag restarts packet g s n t r k = λ i. record { page = g i; slot = s i; latest = n i; tag = t i; restarts = r i; packet = k i }
 
-  -- in the place of a job or a session that cannot be read
+  -- in the place of a job that cannot be read
   pub unread : no-job-in b ≡ true → job-in b ≡ no-job
   unfolding job-in
   unread e = rw e
 
-  pub no-session-in : (length b ≡ session-length → ⊥) → session-in b ≡ no-session
-  unfolding session-in
-  no-session-in n = rw (ne-eqb (length b) session-length n)
-
-  -- whatever the bytes are, what is read has a nonce and a tag of their lengths
+  -- what is read has a nonce and a tag of their lengths, a job's whatever the bytes are
   job-lengths-by : (none : Bool) → no-job-in b ≡ none → (length (job-in b .nonce) ≡ nonce-length) × (length (job-in b .tag) ≡ tag-length)
   unfolding job-in no-job
   job-lengths-by true e = rw e (refl, refl)
@@ -73,15 +68,9 @@ module _ (b : List ℕ) where
   pub job-lengths : (length (job-in b .nonce) ≡ nonce-length) × (length (job-in b .tag) ≡ tag-length)
   job-lengths = job-lengths-by (no-job-in b) refl
 
-  session-tag-by : (right : Bool) → eqb (length b) session-length ≡ right → length (session-in b .tag) ≡ tag-length
-  unfolding session-in no-session
-  session-tag-by false e = rw e refl
-  session-tag-by true e =
-      let l = eqb-true (length b) session-length e in
-      rw e (length-part b 24 tag-length (omega arith))
-
-  pub session-tag : length (session-in b .tag) ≡ tag-length
-  session-tag = session-tag-by (eqb (length b) session-length) refl
+  pub session-tag : length b ≡ session-length → length (session-in b .tag) ≡ tag-length
+  unfolding session-in
+  session-tag l = length-part b 24 tag-length (omega arith)
 
 -- ---- writing
 

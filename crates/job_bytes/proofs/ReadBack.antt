@@ -13,7 +13,7 @@ use Rattle.octets.specs.Word.{word-at}
 use Rattle.octets.proofs.Laws.{part-append-left, part-append-right, part-whole}
 use Rattle.octets.proofs.Numbers.{length-bytes, number-ext, number-right, number-bytes}
 use Rattle.protocol.specs.Types.{Phase, EraseFirst, Words, Record, EraseAfter, Done, Origin, Save, PowerUp, Job, Session}
-use Rattle.job_bytes.specs.Bytes.{job-length, word-of, phase-number, phase-place, origin-number, job-words, job-bytes, session-bytes, phase-of, origin-of, unknown, no-job-in, job-in, session-in}
+use Rattle.job_bytes.specs.Bytes.{job-length, session-length, word-of, phase-number, phase-place, origin-number, job-words, job-bytes, session-bytes, phase-of, origin-of, unknown, no-job-in, job-in, session-in}
 use Rattle.job_bytes.proofs.BytesLaws.{words-long, read-job, read-session}
 
 -- ---- a word in a string
@@ -205,6 +205,18 @@ pub record FitsSession (s : Session) : Type 0 where
   pub restarts : s .restarts < 2 ^ 32
   pub packet : s .packet < 2 ^ 32
 
+-- the bytes of a session are 48
+pub session-long : (s : Session) → FitsSession s → length (session-bytes s) ≡ session-length
+unfolding session-bytes
+session-long s fits =
+    let two = word-of (s .page) ++ word-of (s .slot) in
+    let three = two ++ s .latest in
+    let four = three ++ s .tag in
+    let l2 = longer (word-of (s .page)) 4 (s .slot) (length-bytes 4 (s .page)) in
+    let l3 : length three ≡ 24 = length-append two (s .latest) ∙ ap₂ (λ (x y : ℕ). x + y) l2 (fits .latest) in
+    let l4 : length four ≡ 40 = length-append three (s .tag) ∙ ap₂ (λ (x y : ℕ). x + y) l3 (fits .tag) in
+    longer (four ++ word-of (s .restarts)) 44 (s .packet) (longer four 40 (s .restarts) l4)
+
 -- the bytes of a session are read as that session
 pub session-back : (s : Session) → FitsSession s → session-in (session-bytes s) ≡ s
 unfolding session-bytes word-at
@@ -220,7 +232,7 @@ session-back s fits =
     let l3 : length three ≡ 24 = length-append two (s .latest) ∙ ap₂ (λ (x y : ℕ). x + y) l2 (fits .latest) in
     let l4 : length four ≡ 40 = length-append three (s .tag) ∙ ap₂ (λ (x y : ℕ). x + y) l3 (fits .tag) in
     let l5 = longer four 40 (s .restarts) l4 in
-    sym (read-session (chain four last) (longer five 44 (s .packet) l5) (s .page) (s .slot) (s .latest) (s .tag) (s .restarts) (s .packet)
+    sym (read-session (chain four last) (s .page) (s .slot) (s .latest) (s .tag) (s .restarts) (s .packet)
     (sym (stays four last 0 (omega (arith, l4)) ∙ word-left three (s .tag) 0 (omega (arith, l3)) ∙ word-left two (s .latest) 0 (omega (arith, l2)) ∙ stays one (s .slot ∷ []) 0 (omega (arith, l1)) ∙ number-bytes 4 (s .page) (fits .page)))
     (sym (stays four last 4 (omega (arith, l4)) ∙ word-left three (s .tag) 4 (omega (arith, l3)) ∙ word-left two (s .latest) 4 (omega (arith, l2)) ∙ next one [] 4 (s .slot) l1 (fits .slot)))
     (sym (part-stays four last 8 slot-length (omega (arith, l4)) ∙ part-append-left three (s .tag) 8 slot-length (omega (arith, l3)) ∙ part-append-right two (s .latest) 8 slot-length 0 (omega (arith, l2)) ∙ part-whole (s .latest) slot-length (fits .latest)))

@@ -8,7 +8,7 @@ use Rattle.octets.specs.Limits.{nonce-length, slot-length, tag-length}
 use Rattle.octets.specs.Octets.{part, bytes}
 use Rattle.octets.specs.Word.{word-at}
 use Rattle.protocol.specs.Types.{Phase, EraseFirst, Words, Record, EraseAfter, Done, Origin, Save, PowerUp, Job, Session}
-use Rattle.protocol.specs.Operations.{no-job, no-session}
+use Rattle.protocol.specs.Operations.{no-job}
 
 abbrev pub job-length : ℕ
 job-length = 64
@@ -85,9 +85,9 @@ job-in b = cond (no-job-in b) no-job record {
   packet = word-at b 60;
 }
 
--- in the place of a session of another length stands the one that is no unit's, which gives 8 in its place in the order (keeper_c/proofs/InPlace.antt)
+-- of 48 bytes
 unfoldable pub session-in : List ℕ → Session
-session-in b = cond (not (eqb (length b) session-length)) no-session record {
+session-in b = record {
   page = word-at b 0;
   slot = word-at b 4;
   latest = part b 8 slot-length;

@@ -110,13 +110,11 @@ pub fn job_in(bytes: &[u8]) -> Job
     }
 }
 
-// The session of a buffer, or the one that no save begins with.
+// The session of a buffer.
 pub fn session_in(bytes: &[u8]) -> Session
+    requires { ⌜ length (now bytes) ≡ session-length ⌝ }
     ensures { λ r. ⌜ view-session r ≡ session-in (now (bytes .entry)) ⌝ }
 {
-    if bytes.len() != SESSION_LENGTH {
-        return no_session();
-    }
     Session {
         page: number_at(bytes, 0),
         slot: number_at(bytes, 4),

@@ -1,4 +1,3 @@
--- Laws of the views and of the conditions of saves and advances.
+-- Laws of the views and of the conditions of advances.
 pub mod ViewLaws
 pub mod AdvanceLaws
-pub mod SaveLaws

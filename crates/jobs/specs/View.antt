@@ -1,4 +1,4 @@
--- What jobs, sessions and the answers of saves and advances stand for (document 01, "What the unit calls"): for each case of each enum and for each struct the number or value of the crate `protocol`.
+-- What jobs, sessions and the answers of starts and advances stand for (document 01, "What the unit calls"): for each case of each enum and for each struct the number or value of the crate `protocol`.
 -- A stop stands for its number in document 01's table.
 use Prim.Native.Nat.{ℕ}
 use mathlib.Core.List.{List, []}
@@ -80,9 +80,3 @@ advances pages slots job staging = record { sizes = calls.sizes pages slots; job
 
 abbrev pub save-arguments : ℕ → ℕ → List ℕ → List ℕ → ℕ → List ℕ → List ℕ → List ℕ → calls.SaveArguments
 save-arguments pages slots key nonce packet open-part secret staging = record { sizes = calls.sizes pages slots; key = key; nonce = nonce; packet = packet; open-part = open-part; secret = secret; staging = staging }
-
-abbrev pub first-saves : calls.SaveArguments → List ℕ → calls.FirstSave
-first-saves a starting-tag = record { arguments = a; starting-tag = starting-tag }
-
-abbrev pub saves : calls.SaveArguments → Session → calls.Saves
-saves a session = record { arguments = a; session = view-session session }

@@ -1,17 +1,13 @@
-// Saves and the advance (document 01, "What the unit calls"): a session goes in by value and a job comes out, and a job goes in and its
-// successor comes out, in the end with the new session.
+// Jobs and the advance (document 01, "What the unit calls"): a job goes in by value and its successor comes out, in the end with the new session.
 mod advance;
 mod job;
 mod lent;
-mod saves;
 mod types;
 mod word;
 
 pub use job::no_job;
 pub use job::no_session;
 pub use lent::advance_lent;
-pub use saves::first_save;
-pub use saves::first_save_check;
 pub use types::Advanced;
 pub use types::Job;
 pub use types::Moved;

@@ -13,7 +13,7 @@ pub enum Phase {
     Done,
 }
 
-// Which start a job came from. A first save is a save.
+// Which start a job came from.
 pub enum Origin {
     Save,
     PowerUp,

@@ -1,5 +1,5 @@
-// The checkpoint keeper (document 01): power-up and wipe. Looking is in the crate `look`; what jobs and sessions are, the saves and the
-// advance are in the crate `jobs`. The names of both are passed on.
+// The checkpoint keeper (document 01): power-up and wipe. The save is in the crate `saves`, looking in the crate `look`, and what jobs and
+// sessions are and the advance in the crate `jobs`. The names of all three are passed on.
 mod buffers;
 mod resuming;
 mod types;
@@ -15,8 +15,6 @@ pub use jobs::Session;
 pub use jobs::Start;
 pub use jobs::Started;
 pub use jobs::advance_lent;
-pub use jobs::first_save;
-pub use jobs::first_save_check;
 pub use jobs::no_job;
 pub use jobs::no_session;
 pub use look::Looked;
@@ -26,4 +24,8 @@ pub use look::open_part;
 pub use look::see;
 pub use resuming::power_up;
 pub use resuming::power_up_check;
+pub use saves::From;
+pub use saves::Given;
+pub use saves::from_session;
+pub use saves::from_tag;
 pub use types::PoweredUp;

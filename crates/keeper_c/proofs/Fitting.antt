@@ -1,15 +1,15 @@
--- The numbers of every job and session that a call hands out fit words, so what the call writes reads back; the five theorems stand at the end.
+-- The numbers of every job and session that a call hands out fit words, so what the call writes reads back; the four theorems stand at the end.
 -- Assumes nothing.
 use Prim.Native.Nat.{ℕ, _+_, _*_, _^_, _≤_, _<_}
-use mathlib.Core.Path.{_≡_, refl, ap₂, _∙_}
+use mathlib.Core.Path.{_≡_, refl, ap, ap₂, _∙_}
 use mathlib.Core.Bool.{Bool, true, false, cond}
 use mathlib.Core.Option.{Option, none}
 use mathlib.Core.List.{List}
 use native.Mathlib.Omega.{arith}
-use borrow.Author.Tests.{eqb-true, not-false}
+use borrow.Author.Tests.{eqb-true, eq-eqb, le-ltb, not-false}
 use lib.Dec.{eqb, ltb, lit<}
 use lib.ListN.{length, length-append, take, getD}
-use Rattle.octets.specs.Limits.{nonce-length, tag-length, part-limit, fram-limit}
+use Rattle.octets.specs.Limits.{nonce-length, tag-length, packet-limit, part-limit, fram-limit}
 use Rattle.octets.specs.Word.{word-at}
 use Rattle.octets.proofs.Numbers.{length-word, number-lt}
 use Rattle.stops.proofs.Laws.{passes, neither}
@@ -24,16 +24,15 @@ use Rattle.checkpoint.proofs.FramLaws.{half-sizes}
 use Rattle.checkpoint.proofs.SealedLaws.{head-small, length-own-tag, length-sealed}
 use Rattle.checkpoint.proofs.StoredLaws.{packet-small, stored-in-range, stored-small}
 use Rattle.protocol.specs.Types.{Phase, EraseFirst, Words, Record, EraseAfter, Done, Origin, Job, Session, this-firmware}
-use Rattle.protocol.specs.Calls.{Sizes, SaveArguments, FirstSave, Saves, PowersUp, Advances}
-use Rattle.protocol.specs.Operations.{key-wrong, nonce-wrong, stale, session-wrong, newest-in, written-number, larger, save-restarts, no-job, begin, job-of, first-checkpoint, save-checkpoint, resumed, first-phase, first-save-stop, first-save, save-stop, save, newest-half, newest-checkpoint, half-lines, power-up-stop, power-up, no-session, job-record, session-of, in-phase, Moved, going-on, ended, recorded, erase-follows, after-record, store, advance-stop, advance-by, advance}
-use Rattle.protocol.proofs.FirstSaves.{numbered}
-use Rattle.protocol.proofs.Saves.{save-numbered, save-few}
+use Rattle.protocol.specs.Calls.{Sizes, from-tag, from-session, SaveArguments, saves, PowersUp, Advances}
+use Rattle.protocol.specs.Operations.{key-wrong, nonce-wrong, stale, session-wrong, newest-in, written-number, larger, save-restarts, no-job, begin, job-of, packet-wrong, number-from, restarts-from, previous-tag, save-checkpoint, save-target, ring-lines, resumed, first-phase, save-stop, save, newest-half, newest-checkpoint, half-lines, power-up-stop, power-up, no-session, job-record, session-of, in-phase, Moved, going-on, ended, recorded, erase-follows, after-record, store, advance-stop, advance-by, advance}
+use Rattle.protocol.proofs.Saves.{numbered, save-numbered, save-few}
 use Rattle.jobs.proofs.AdvanceLaws.{Ready, ready, word-ready}
-use Rattle.jobs.proofs.SaveLaws.{lengths, first-lengths}
-use Rattle.job_bytes.specs.Bytes.{phase-place, no-job-in, job-bytes, session-bytes, job-in, session-in}
+use Rattle.saves.proofs.Laws.{right-tag, buffers-passed}
+use Rattle.job_bytes.specs.Bytes.{session-length, phase-place, no-job-in, job-bytes, session-bytes, job-in, session-in}
 use Rattle.job_bytes.proofs.BytesLaws.{session-tag, job-lengths}
-use Rattle.job_bytes.proofs.ReadBack.{FitsJob, FitsSession, job-back, session-back}
-use Rattle.keeper_c.specs.Calls.{saves-in, advances-in}
+use Rattle.job_bytes.proofs.ReadBack.{FitsJob, FitsSession, job-back, session-long, session-back}
+use Rattle.keeper_c.specs.Calls.{from-in, saves-in, advances-in}
 
 -- what holds of both branches holds of the one taken
 either : {A : Type 0} (P : A → Type 0) (b : Bool) (x y : A) → P x → (b ≡ false → P y) → P (cond b x y)
@@ -47,6 +46,10 @@ small form packet n = omega (arith, packet-small form packet n)
 
 few : (form : Form) (packet : ℕ) (z : Session) → session-wrong form z ≡ false → save-restarts form packet (z .packet) (z .restarts) < 2 ^ 32
 few form packet z e = omega (arith, save-few form packet z e)
+
+passes-18 : (packet : ℕ) → packet ≤ packet-limit → packet-wrong Longer packet ≡ false
+unfolding packet-wrong
+passes-18 packet l = le-ltb packet-limit packet l
 
 word-small : (b : List ℕ) (i : ℕ) → ((k : ℕ) → getD b k 0 < 256) → word-at b i < 2 ^ 32
 unfolding word-at
@@ -110,27 +113,35 @@ module _ (pages slots : ℕ) (ring : List ℕ) (w : ring-wrong pages slots ring 
       omega arith
 
 module _ (ring fram : List ℕ) where
-  first-save-fits : (a : FirstSave) → first-save-stop this-firmware ring fram a ≡ none → FitsJob (first-save this-firmware ring fram a .job)
-  unfolding first-save first-checkpoint first-save-stop
-  first-save-fits a e =
-      let l = first-lengths ring fram a e in
-      begun-fits (first-save-stop this-firmware ring fram a) _ _ _ _ _ _ e
-      (made-fits _ _ _ _ 0 0 0 (l .1) (l .0 .open-part) (l .0 .secret) (l .0 .nonce) (lit< tt) (lit< tt) (lit< tt) (lit< tt) (lit< tt)
-      (small Longer (written-number Longer (a .arguments .packet)) (numbered Longer (a .arguments .packet) (passes _ e .1 .1 .1 .1 .0))))
+  first-fits : (a : SaveArguments) (tag : List ℕ) → save-stop this-firmware ring fram (saves a (from-tag tag)) ≡ none → FitsJob (save this-firmware ring fram (saves a (from-tag tag)) .job)
+  unfolding save save-checkpoint number-from restarts-from previous-tag save-target
+  first-fits a tag e =
+      let b = buffers-passed ring fram a (from-tag tag) e in
+      let l = b .lengths-right in
+      begun-fits (save-stop this-firmware ring fram (saves a (from-tag tag))) _ _ _ _ _ _ e
+      (made-fits _ _ _ _ 0 0 0 (right-tag tag (b .from-right)) (l .open-part) (l .secret) (l .nonce) (lit< tt) (lit< tt) (lit< tt) (lit< tt) (lit< tt)
+      (small Longer (written-number Longer (a .packet)) (numbered Longer (a .packet) (passes-18 (a .packet) (l .packet)))))
 
-  save-fits : (a : Saves) → length (a .session .tag) ≡ tag-length → save-stop this-firmware ring fram a ≡ none → FitsJob (save this-firmware ring fram a .job)
-  unfolding save save-checkpoint save-stop
-  save-fits a t e =
-      let z = a .arguments .sizes in
-      let p = passes _ e in
-      let n = neither (key-wrong (length (a .arguments .key))) (nonce-wrong (length (a .arguments .nonce))) (p .1 .1 .0) in
-      let y = neither (stale ring (z .slots) (newest-in ring z) (a .session)) (session-wrong Longer (a .session)) (p .1 .1 .1 .1 .1 .1 .1 .0) in
-      let l = lengths fram (a .arguments) (n .0) (n .1) (p .1 .1 .1 .0) (p .1 .1 .1 .1 .0) in
-      begun-fits (save-stop this-firmware ring fram a) _ _ _ _ _ _ e
+  next-fits : (a : SaveArguments) (s : Session) → length (s .tag) ≡ tag-length → save-stop this-firmware ring fram (saves a (from-session s)) ≡ none
+      → FitsJob (save this-firmware ring fram (saves a (from-session s)) .job)
+  unfolding save save-checkpoint number-from restarts-from previous-tag save-target save-stop ring-lines
+  next-fits a s t e =
+      let z = a .sizes in
+      let b = buffers-passed ring fram a (from-session s) e in
+      let l = b .lengths-right in
+      let y = neither (stale ring (z .slots) (newest-in ring z) s) (session-wrong Longer s) (passes _ e .1 .1 .1 .1 .1 .1 .1 .0) in
+      begun-fits (save-stop this-firmware ring fram (saves a (from-session s))) _ _ _ _ _ _ e
       (made-fits _ _ _ _ _ _ _ t (l .open-part) (l .secret) (l .nonce) (lit< tt) (omega arith)
-      (page-fits (z .pages) (z .slots) ring (p .0)) (slot-fits (z .pages) (z .slots) ring (p .0))
-      (few Longer (a .arguments .packet) (a .session) (y .1))
-      (small Longer (written-number Longer (larger (a .session .packet) (a .arguments .packet))) (save-numbered Longer (a .arguments .packet) (a .session) (p .1 .1 .1 .1 .0) (y .1))))
+      (page-fits (z .pages) (z .slots) ring (b .ring-right)) (slot-fits (z .pages) (z .slots) ring (b .ring-right))
+      (few Longer (a .packet) s (y .1))
+      (small Longer (written-number Longer (larger (s .packet) (a .packet))) (save-numbered Longer (a .packet) s (passes-18 (a .packet) (l .packet)) (y .1))))
+
+  -- with what is read from any buffer
+  save-fits : (a : SaveArguments) (b : List ℕ) (whole : Bool) → eqb (length b) session-length ≡ whole
+      → (let from = cond whole (from-session (session-in b)) (from-tag b) in
+      save-stop this-firmware ring fram (saves a from) ≡ none → FitsJob (save this-firmware ring fram (saves a from) .job))
+  save-fits a b true f e = next-fits a (session-in b) (session-tag b (eqb-true (length b) session-length f)) e
+  save-fits a b false f e = first-fits a b e
 
   power-up-fits : (a : PowersUp) → power-up-stop this-firmware ring fram a ≡ none → FitsJob (power-up this-firmware ring fram a .job)
   unfolding power-up newest-checkpoint resumed half-lines power-up-stop stored
@@ -219,14 +230,11 @@ module _ (ring fram : List ℕ) (a : Advances) (nonce : length (a .job .nonce) �
 -- ---- what the calls write reads back
 
 module _ (ring fram : List ℕ) where
-  -- the bytes of the job that a first save hands out are read as that job
-  pub first-save-back : (a : FirstSave) → first-save-stop this-firmware ring fram a ≡ none → job-in (job-bytes (first-save this-firmware ring fram a .job)) ≡ first-save this-firmware ring fram a .job
-  first-save-back a e = job-back _ (first-save-fits ring fram a e)
-
-  -- those of a save's job, with a session read from any buffer
-  pub save-back : (a : SaveArguments) (session : List ℕ) → save-stop this-firmware ring fram (saves-in a session) ≡ none
-      → job-in (job-bytes (save this-firmware ring fram (saves-in a session) .job)) ≡ save this-firmware ring fram (saves-in a session) .job
-  save-back a session e = job-back _ (save-fits ring fram (saves-in a session) (session-tag session) e)
+  -- the bytes of the job that a save hands out are read as that job, whatever buffer it was given to follow
+  pub save-back : (a : SaveArguments) (from : List ℕ) → save-stop this-firmware ring fram (saves-in a from) ≡ none
+      → job-in (job-bytes (save this-firmware ring fram (saves-in a from) .job)) ≡ save this-firmware ring fram (saves-in a from) .job
+  unfolding from-in
+  save-back a from e = job-back _ (save-fits ring fram a from (eqb (length from) session-length) refl e)
 
   -- those of a power-up's job
   pub power-up-back : (a : PowersUp) → power-up-stop this-firmware ring fram a ≡ none → job-in (job-bytes (power-up this-firmware ring fram a .job)) ≡ power-up this-firmware ring fram a .job
@@ -241,6 +249,7 @@ module _ (ring fram : List ℕ) where
     pub advance-job-back : job-in (job-bytes (advance this-firmware ring fram (advances-in z job staging) .job)) ≡ advance this-firmware ring fram (advances-in z job staging) .job
     advance-job-back = job-back _ (both-fit .0)
 
-    -- the bytes of the session that it answers are read as that session; at 'going on' they are not written
-    pub advance-session-back : session-in (session-bytes (advance this-firmware ring fram (advances-in z job staging) .session)) ≡ advance this-firmware ring fram (advances-in z job staging) .session
-    advance-session-back = session-back _ (both-fit .1)
+    -- a save that is given the bytes of the session which it answers follows that session; at 'going on' they are not written
+    pub advance-session-back : from-in (session-bytes (advance this-firmware ring fram (advances-in z job staging) .session)) ≡ from-session (advance this-firmware ring fram (advances-in z job staging) .session)
+    unfolding from-in
+    advance-session-back = rw (eq-eqb _ session-length (session-long _ (both-fit .1))) (ap from-session (session-back _ (both-fit .1)))

@@ -9,10 +9,10 @@ use lib.ListN.{length}
 use Rattle.stops.specs.Stops.{then-stop}
 use Rattle.checkpoint.specs.Checkpoint.{Checkpoint}
 use Rattle.protocol.specs.Types.{Job, Start, Begun, Stopped, this-firmware}
-use Rattle.protocol.specs.Calls.{FirstSave, Saves, PowersUp}
-use Rattle.protocol.specs.Operations.{Begin, begin, first-save-stop, first-save, save-stop, save, power-up-stop, power-up}
+use Rattle.protocol.specs.Calls.{Saves, PowersUp}
+use Rattle.protocol.specs.Operations.{Begin, begin, save-stop, save, power-up-stop, power-up}
 use Rattle.job_bytes.specs.Bytes.{job-length}
-use Rattle.keeper_c.specs.Calls.{Starting, answer, with-job, starting-left, saving-left, starting-by, first-save-call, save-call, power-up-call}
+use Rattle.keeper_c.specs.Calls.{Starting, answer, with-job, starting-left, saving-left, starting-by, save-call, power-up-call}
 use Rattle.keeper_c.specs.Inner.{start-number, job-after, length-after}
 
 -- a buffer for the job that has another length
@@ -44,14 +44,9 @@ unfolding left-of
 good S key c j staging state secret job k l B m r k′ job′ h g n =
     rw (eq-eqb (length job) job-length l) ((λ i. starting-left (h i) (B .staging) (B .state) (g i) (n i)) ∙ ap (left-of job k) m ∙ good-by S key c j staging state secret job k)
 
--- ---- the three starts
+-- ---- both starts
 
 module _ (ring fram job : List ℕ) where
-  pub first-save-bad : (a : FirstSave) → (length job ≡ job-length → ⊥) → (p : Option ℕ) (r : ℕ) → p ≡ first-save-stop this-firmware ring fram a → r ≡ answer (then-stop p 14 true)
-      → saving-left r (a .arguments .staging) job ≡ first-save-call ring fram a job
-  unfolding first-save-call
-  first-save-bad a n p r = bad (first-save-stop this-firmware ring fram a) (first-save this-firmware ring fram a) (a .arguments .staging) [] job 0 n p r
-
   pub save-bad : (a : Saves) → (length job ≡ job-length → ⊥) → (p : Option ℕ) (r : ℕ) → p ≡ save-stop this-firmware ring fram a → r ≡ answer (then-stop p 14 true)
       → saving-left r (a .arguments .staging) job ≡ save-call ring fram a job
   unfolding save-call
@@ -63,11 +58,6 @@ module _ (ring fram job : List ℕ) where
   power-up-bad a k n p r = bad (power-up-stop this-firmware ring fram a) (power-up this-firmware ring fram a) (a .staging) (a .state) job k n p r
 
   module _ (l : length job ≡ job-length) (B : Begin) (r : ℕ) (job′ : List ℕ) where
-    pub first-save-good : (a : FirstSave) → B ≡ first-save this-firmware ring fram a → r ≡ start-number (B .answer) → job′ ≡ job-after (B .answer) (B .job) job
-        → 0 ≡ length-after (B .answer) (B .secret-length) 0 → starting-left r (B .staging) (B .state) job′ 0 ≡ first-save-call ring fram a job
-    unfolding first-save-call first-save
-    first-save-good a m h g n = good _ _ _ _ _ _ _ job 0 l B m r 0 job′ h g n
-
     pub save-good : (a : Saves) → B ≡ save this-firmware ring fram a → r ≡ start-number (B .answer) → job′ ≡ job-after (B .answer) (B .job) job
         → 0 ≡ length-after (B .answer) (B .secret-length) 0 → starting-left r (B .staging) (B .state) job′ 0 ≡ save-call ring fram a job
     unfolding save-call save

@@ -1,6 +1,6 @@
 -- What each call answers and leaves behind its pointers (hosts/c/keeper.h). A stop leaves all as it was.
 use Prim.Native.Nat.{ℕ}
-use mathlib.Core.Bool.{not, _||_}
+use mathlib.Core.Bool.{not, cond, _||_}
 use mathlib.Core.Option.{Option, none, some}
 use mathlib.Core.List.{List, [], _∷_}
 use lib.Dec.{eqb}
@@ -12,8 +12,8 @@ use Rattle.gcm.specs.Calls.{key-wrong, nonce-wrong, tag-wrong, buffers-wrong}
 use Rattle.ring.specs.Ring.{ring-wrong}
 use Rattle.checkpoint.specs.Fram.{fram-wrong}
 use Rattle.protocol.specs.Types.{Session, Stretch, Looked, Restarts, Unseen, Progress, GoingOn, Saved, Restored, Refused, this-firmware}
-use Rattle.protocol.specs.Calls.{Sizes, SaveArguments, FirstSave, Saves, PowersUp, Looks, Advances}
-use Rattle.protocol.specs.Operations.{Begin, Moved, staging-wrong, first-save-stop, first-save, save-stop, save, power-up-stop, power-up, look, open-stretch, job-wrong, advance}
+use Rattle.protocol.specs.Calls.{Sizes, From, from-tag, from-session, SaveArguments, Saves, saves, PowersUp, Looks, Advances}
+use Rattle.protocol.specs.Operations.{Begin, Moved, staging-wrong, save-stop, save, power-up-stop, power-up, look, open-stretch, job-wrong, advance}
 use Rattle.intel_hex.specs.Export.{Export, export}
 use Rattle.job_bytes.specs.Bytes.{job-length, session-length, job-bytes, session-bytes, job-in, session-in}
 
@@ -71,14 +71,15 @@ abbrev pub starting-by : Option ℕ → Begin → (staging state job : List ℕ)
 starting-by (some n) b staging state job secret-length = starting-left n staging state job secret-length
 starting-by none b staging state job secret-length = starting-left 0 (b .staging) (b .state) (job-bytes (b .job)) (b .secret-length)
 
--- the session is read from its buffer
+-- what a save follows is read from its buffer: 48 bytes are a session, and any others a starting tag, which 3 refuses if they are not 16
+-- (proofs/InPlace.antt)
+unfoldable pub from-in : List ℕ → From
+from-in b = cond (eqb (length b) session-length) (from-session (session-in b)) (from-tag b)
+
 abbrev pub saves-in : SaveArguments → List ℕ → Saves
-saves-in a session = record { arguments = a; session = session-in session }
+saves-in a from = saves a (from-in from)
 
 module _ (ring fram : List ℕ) where
-  unfoldable pub first-save-call : FirstSave → (job : List ℕ) → Starting
-  first-save-call a job = starting-by (with-job (first-save-stop this-firmware ring fram a) job) (first-save this-firmware ring fram a) (a .arguments .staging) [] job 0
-
   unfoldable pub save-call : Saves → (job : List ℕ) → Starting
   save-call a job = starting-by (with-job (save-stop this-firmware ring fram a) job) (save this-firmware ring fram a) (a .arguments .staging) [] job 0
 

@@ -1,11 +1,19 @@
 -- What the inner functions of the starts and of the advance answer and leave; no call's contract names it.
 use Prim.Native.Nat.{ℕ}
-use mathlib.Core.Bool.{Bool, true, false}
+use mathlib.Core.Bool.{Bool, true, false, cond}
 use mathlib.Core.List.{List}
 use Rattle.protocol.specs.Types.{Job, Start, Begun, Stopped, Progress, GoingOn, Saved, Restored, Refused}
-use Rattle.job_bytes.specs.Bytes.{job-bytes}
+use lib.Dec.{eqb}
+use lib.ListN.{length}
+use Rattle.protocol.specs.Calls.{From, from-tag, from-session}
+use Rattle.saves.specs.View.{whole-tag}
+use Rattle.job_bytes.specs.Bytes.{session-length, job-bytes, session-in}
 
 -- ---- a start
+
+-- what a save follows, with a starting tag of another length as an empty one
+abbrev pub whole-from : List ℕ → From
+whole-from b = cond (eqb (length b) session-length) (from-session (session-in b)) (from-tag (whole-tag b))
 
 -- 0, or the number of a stop
 abbrev pub start-number : Start → ℕ

@@ -12,6 +12,5 @@ pub use cipher::keeper_seal;
 pub use cipher::keeper_wipe;
 pub use hex::keeper_hex_export;
 pub use hex::keeper_hex_import;
-pub use starts::keeper_first_save;
 pub use starts::keeper_power_up;
 pub use starts::keeper_save;

@@ -1,24 +1,27 @@
-// First save, save and power-up.
+// Save and power-up.
 use crate::cipher::stopped;
 use job_bytes::JOB_LENGTH;
+use job_bytes::SESSION_LENGTH;
 use job_bytes::put_job;
 use job_bytes::session_in;
 use jobs::Job;
 use jobs::Start;
-use jobs::first_save;
-use jobs::first_save_check;
 use keeper::PoweredUp;
 use keeper::power_up;
 use keeper::power_up_check;
+use saves::From;
+use saves::from_session;
+use saves::from_tag;
 use stops::Stop;
 use stops::stop_number;
 ghost use mathlib.Core.Path.{_≡_};
 ghost use lib.ListN.{length};
-ghost use Rattle.jobs.specs.View.{view-job, view-start, save-arguments, first-saves};
+ghost use Rattle.jobs.specs.View.{view-job, view-start, save-arguments};
+ghost use Rattle.saves.specs.View.{view-from};
 ghost use Rattle.job_bytes.specs.Bytes.{job-length};
 ghost use Rattle.keeper.specs.View.{powers-up};
-ghost use Rattle.keeper_c.specs.Calls.{starting-left, saving-left, saves-in, first-save-call, save-call, power-up-call};
-ghost use Rattle.keeper_c.specs.Inner.{start-number, job-after, length-after};
+ghost use Rattle.keeper_c.specs.Calls.{starting-left, saving-left, saves-in, save-call, power-up-call};
+ghost use Rattle.keeper_c.specs.Inner.{start-number, job-after, length-after, whole-from};
 
 // Writes the job of a start that began; 0, or the number of its stop.
 fn put_started(start: Start, made: Job, job: &mut [u8]) -> u32
@@ -54,58 +57,17 @@ fn put_powered(powered: PoweredUp, job: &mut [u8], secret_len: &mut usize) -> u3
     put_started(start, powered.job, job)
 }
 
-// Seals the unit's first checkpoint into staging, and writes the job that stores it.
-#[no_mangle]
-pub extern "C" fn keeper_first_save(
-    pages: usize,
-    slots: usize,
-    ring: &[u8],
-    fram: &[u8],
-    key: &[u8],
-    nonce: &[u8],
-    starting_tag: &[u8],
-    packet: u32,
-    open_part: &[u8],
-    secret: &[u8],
-    staging: &mut [u8],
-    job: &mut [u8],
-) -> u32
-    ensures { λ r. ⌜ saving-left r (now (staging .exit)) (now (job .exit)) ≡ first-save-call (now (ring .entry)) (now (fram .entry)) (first-saves (save-arguments pages slots (now (key .entry)) (now (nonce .entry)) packet (now («open_part» .entry)) (now (secret .entry)) (now (staging .entry))) (now («starting_tag» .entry))) (now (job .entry)) ⌝ }
+// What a save follows, from its buffer.
+fn from_in(bytes: &[u8]) -> From
+    ensures { λ r. ⌜ view-from r ≡ whole-from (now (bytes .entry)) ⌝ }
 {
-    if job.len() != JOB_LENGTH {
-        let check = first_save_check(
-            pages,
-            slots,
-            ring,
-            fram,
-            key,
-            nonce,
-            starting_tag,
-            packet as usize,
-            open_part,
-            secret,
-            staging,
-        );
-        return stopped(check, Stop::BadJob);
+    if bytes.len() == SESSION_LENGTH {
+        return from_session(session_in(bytes));
     }
-    let started = first_save(
-        pages,
-        slots,
-        ring,
-        fram,
-        key,
-        nonce,
-        starting_tag,
-        packet as usize,
-        open_part,
-        secret,
-        staging,
-    );
-    let start = started.start;
-    put_started(start, started.job, job)
+    from_tag(bytes)
 }
 
-// Seals the next checkpoint into staging, and writes the job that stores it.
+// Seals a checkpoint into staging, and writes the job that stores it. `from` is a starting tag of 16 bytes or a session of 48.
 #[no_mangle]
 pub extern "C" fn keeper_save(
     pages: usize,
@@ -114,18 +76,18 @@ pub extern "C" fn keeper_save(
     fram: &[u8],
     key: &[u8],
     nonce: &[u8],
-    session: &[u8],
+    from: &[u8],
     packet: u32,
     open_part: &[u8],
     secret: &[u8],
     staging: &mut [u8],
     job: &mut [u8],
 ) -> u32
-    ensures { λ r. ⌜ saving-left r (now (staging .exit)) (now (job .exit)) ≡ save-call (now (ring .entry)) (now (fram .entry)) (saves-in (save-arguments pages slots (now (key .entry)) (now (nonce .entry)) packet (now («open_part» .entry)) (now (secret .entry)) (now (staging .entry))) (now (session .entry))) (now (job .entry)) ⌝ }
+    ensures { λ r. ⌜ saving-left r (now (staging .exit)) (now (job .exit)) ≡ save-call (now (ring .entry)) (now (fram .entry)) (saves-in (save-arguments pages slots (now (key .entry)) (now (nonce .entry)) packet (now («open_part» .entry)) (now (secret .entry)) (now (staging .entry))) (now (from .entry))) (now (job .entry)) ⌝ }
 {
-    let given = session_in(session);
+    let follows = from_in(from);
     if job.len() != JOB_LENGTH {
-        let check = given.save_check(
+        let check = follows.save_check(
             pages,
             slots,
             ring,
@@ -139,7 +101,7 @@ pub extern "C" fn keeper_save(
         );
         return stopped(check, Stop::BadJob);
     }
-    let started = given.save(
+    let started = follows.save(
         pages,
         slots,
         ring,

@@ -4,8 +4,9 @@ use crate::print::print;
 use crate::print::print_stop;
 use crate::values::key;
 use crate::values::starting_tag;
+use keeper::From;
 use keeper::Start;
-use keeper::first_save;
+use keeper::from_tag;
 use keeper::power_up;
 use octets::limits::PART_LIMIT;
 use octets::part;
@@ -21,25 +22,25 @@ fn print_start(start: Start) {
     }
 }
 
-// Begins a first save and prints what it says; staging is long enough for every FRAM that is tried.
+// Begins a save and prints what it says; staging is long enough for every FRAM that is tried.
 fn begin(
     name: &[u8],
     pages: usize,
     ring: &[u8],
     fram: &[u8],
+    from: From,
     packet: usize,
     open: &[u8],
     secret: &[u8],
 ) {
     let mut staging = [0u8; 131_076];
-    let started = first_save(
+    let started = from.save(
         pages,
         2,
         ring,
         fram,
         &key(),
         &[1u8; 12],
-        &starting_tag(),
         packet,
         open,
         secret,
@@ -62,9 +63,29 @@ fn try_first_save(name: &[u8], pages: usize, fram: usize, packet: usize, open: u
         pages,
         part(&ring, 0, 32 * pages),
         part(&image, 0, fram),
+        from_tag(&starting_tag()),
         packet,
         part(&bytes, 0, open),
         part(&bytes, 0, secret),
+    );
+}
+
+// A save with a starting tag of a number of bytes.
+fn try_tag(name: &[u8], length: usize)
+    requires { ⌜ length ≤ 17 ⌝ }
+{
+    let ring = [0xFFu8; 96];
+    let fram = [0u8; 128];
+    let tag = [0u8; 17];
+    begin(
+        name,
+        3,
+        &ring,
+        &fram,
+        from_tag(part(&tag, 0, length)),
+        0,
+        b"",
+        b"",
     );
 }
 
@@ -112,6 +133,12 @@ pub fn show_page_bounds() {
     try_first_save(b"3 pages", 3, 128, 0, 0, 0);
     try_first_save(b"32 pages", 32, 128, 0, 0, 0);
     try_first_save(b"33 pages", 33, 128, 0, 0, 0);
+}
+
+pub fn show_tag_bounds() {
+    try_tag(b"starting tag of 15 bytes", 15);
+    try_tag(b"starting tag of 16 bytes", 16);
+    try_tag(b"starting tag of 17 bytes", 17);
 }
 
 pub fn show_part_bounds() {

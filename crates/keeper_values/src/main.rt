@@ -19,6 +19,7 @@ fn show_wipe() {
 fn main() {
     bounds::show_fram_bounds();
     bounds::show_page_bounds();
+    bounds::show_tag_bounds();
     bounds::show_part_bounds();
     bounds::show_packet_bounds();
     bounds::show_state_bounds();

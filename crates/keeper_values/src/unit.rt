@@ -11,12 +11,15 @@ use crate::values::SLOTS;
 use crate::values::key;
 use crate::values::starting_tag;
 use keeper::Advanced;
+use keeper::From;
 use keeper::Job;
 use keeper::Looked;
 use keeper::PoweredUp;
 use keeper::Session;
 use keeper::Start;
 use keeper::Started;
+use keeper::from_session;
+use keeper::from_tag;
 use keeper::look;
 use keeper::no_session;
 use keeper::open_part;
@@ -90,41 +93,8 @@ fn carry_out(
     }
 }
 
-// A first save, and below a save, with a packet number of the value's.
-fn start_first_save(value: u8, nonce: u8, ring: &[u8], fram: &[u8], staging: &mut [u8]) -> Started {
-    keeper::first_save(
-        PAGES,
-        SLOTS,
-        ring,
-        fram,
-        &key(),
-        &[nonce; 12],
-        &starting_tag(),
-        value as usize,
-        &[value; 8],
-        &[value; 4],
-        staging,
-    )
-}
-
-pub fn do_first_save(
-    value: u8,
-    nonce: u8,
-    advances: usize,
-    ring: &mut [u8],
-    fram: &mut [u8],
-) -> Session {
-    print_number(b"first save of ", value as usize);
-    let mut staging = [0u8; 64];
-    let started = start_first_save(value, nonce, ring, fram, &mut staging);
-    let none = no_session();
-    let next = carry_out(started, none, advances, ring, fram, &staging);
-    print_memories(ring, fram);
-    next
-}
-
 fn start_save(
-    session: Session,
+    from: From,
     packet: usize,
     value: u8,
     nonce: u8,
@@ -132,7 +102,7 @@ fn start_save(
     fram: &[u8],
     staging: &mut [u8],
 ) -> Started {
-    session.save(
+    from.save(
         PAGES,
         SLOTS,
         ring,
@@ -144,6 +114,24 @@ fn start_save(
         &[value; 4],
         staging,
     )
+}
+
+// A save with a starting tag, and below one with a session, with a packet number of the value's.
+pub fn do_first_save(
+    value: u8,
+    nonce: u8,
+    advances: usize,
+    ring: &mut [u8],
+    fram: &mut [u8],
+) -> Session {
+    print_number(b"first save of ", value as usize);
+    let mut staging = [0u8; 64];
+    let from = from_tag(&starting_tag());
+    let started = start_save(from, value as usize, value, nonce, ring, fram, &mut staging);
+    let none = no_session();
+    let next = carry_out(started, none, advances, ring, fram, &staging);
+    print_memories(ring, fram);
+    next
 }
 
 pub fn do_save(
@@ -170,7 +158,8 @@ pub fn do_save_hearing(
     print_number(b"save of ", value as usize);
     print_number(b", packet ", packet);
     let mut staging = [0u8; 64];
-    let started = start_save(session, packet, value, nonce, ring, fram, &mut staging);
+    let from = from_session(session);
+    let started = start_save(from, packet, value, nonce, ring, fram, &mut staging);
     let next = carry_out(started, session, advances, ring, fram, &staging);
     print_memories(ring, fram);
     next

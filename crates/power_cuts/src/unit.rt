@@ -14,6 +14,7 @@ use demo_book::values::record;
 use demo_book::values::secret_text;
 use demo_book::values::starting_tag;
 use keeper::Advanced;
+use keeper::From;
 use keeper::Job;
 use keeper::Phase;
 use keeper::PoweredUp;
@@ -21,7 +22,8 @@ use keeper::Progress;
 use keeper::Session;
 use keeper::Start;
 use keeper::Started;
-use keeper::first_save;
+use keeper::from_session;
+use keeper::from_tag;
 use keeper::no_job;
 use keeper::no_session;
 use keeper::open_part;
@@ -43,44 +45,28 @@ pub struct Unit {
     pub erased: usize,
 }
 
-fn start_first_save(unit: Unit, ring: &[u8], fram: &[u8], staging: &mut [u8]) -> Started {
-    first_save(
-        PAGES,
-        SLOTS,
-        ring,
-        fram,
-        &key(),
-        &nonce(unit.starts),
-        &starting_tag(),
-        packet(unit.saves) as usize,
-        &open_text(unit.saves),
-        &secret_text(unit.saves),
-        staging,
-    )
-}
-
-fn start_save(unit: Unit, ring: &[u8], fram: &[u8], staging: &mut [u8]) -> Started {
-    let session = unit.session;
-    session.save(
-        PAGES,
-        SLOTS,
-        ring,
-        fram,
-        &key(),
-        &nonce(unit.starts),
-        packet(unit.saves) as usize,
-        &open_text(unit.saves),
-        &secret_text(unit.saves),
-        staging,
-    )
-}
-
-// A first save where nothing is recorded, and else a save.
-fn start(unit: Unit, recorded: bool, ring: &[u8], fram: &[u8], staging: &mut [u8]) -> Started {
+// With a starting tag where nothing is recorded, and else with the session.
+fn follows(unit: Unit, recorded: bool) -> From {
     if recorded {
-        return start_save(unit, ring, fram, staging);
+        return from_session(unit.session);
     }
-    start_first_save(unit, ring, fram, staging)
+    from_tag(&starting_tag())
+}
+
+fn start(unit: Unit, recorded: bool, ring: &[u8], fram: &[u8], staging: &mut [u8]) -> Started {
+    let from = follows(unit, recorded);
+    from.save(
+        PAGES,
+        SLOTS,
+        ring,
+        fram,
+        &key(),
+        &nonce(unit.starts),
+        packet(unit.saves) as usize,
+        &open_text(unit.saves),
+        &secret_text(unit.saves),
+        staging,
+    )
 }
 
 fn start_power_up(

@@ -11,8 +11,8 @@ use Rattle.checkpoint.specs.Half.{read-as, open-length, secret-length, good-hea
 use Rattle.checkpoint.proofs.FramLaws.{an-image}
 use Rattle.checkpoint.proofs.HalfLaws.{read-as-is, open-length-is, secret-length-is, head-refused, unread-refused}
 use Rattle.protocol.specs.Types.{Firmware}
-use Rattle.protocol.specs.Calls.{Sizes, FirstSave, PowersUp, Looks, Setup, first-saved, powered-up}
-use Rattle.protocol.specs.Operations.{newest-in, newest-half, first-checkpoint, first-save-stop, half-lines, power-up-stop, power-up, look-stop, look-by, look, stretch-by, open-stretch}
+use Rattle.protocol.specs.Calls.{Sizes, from-tag, SaveArguments, Saves, saves, PowersUp, Looks, Setup, saved, powered-up}
+use Rattle.protocol.specs.Operations.{newest-in, newest-half, save-checkpoint, save-stop, half-lines, power-up-stop, power-up, look-stop, look-by, look, stretch-by, open-stretch}
 use Rattle.protocol.specs.History.{State, fresh, run, Allowed}
 use Rattle.protocol.specs.Recovery.{Started, Exact}
 use Rattle.protocol.specs.Histories.{to-its-end}
@@ -22,7 +22,7 @@ use Rattle.protocol.proofs.Exact.{exact}
 use Rattle.protocol.proofs.Invariant.{Holds}
 use Rattle.protocol.proofs.Reading.{reads, behind, newest-half-is}
 use Rattle.protocol.proofs.Starts.{same-arguments}
-use Rattle.protocol.proofs.FirstSaves.{first-call}
+use Rattle.protocol.proofs.Saves.{saving}
 use Rattle.protocol.proofs.PowerUps.{Entry}
 use Rattle.protocol.proofs.Lists.{hold-run, hold-fresh}
 use Rattle.protocol.proofs.Runs.{recorded-entry}
@@ -102,16 +102,16 @@ beyond-after u firmware fitting ring fram b f events k c e older beyond =
     let h = held-entry u s inv c (recorded-entry u s c inv e) in
     (powers-up older (s .ring) (s .fram) (u .sizes) c h beyond, looks older (s .ring) (s .fram) (u .sizes) c h beyond)
 
--- ---- a first save that does not stop, run to its end
+-- ---- a save with a starting tag that does not stop, run to its end
 
-made : (u : Setup) (firmware : Firmware) (ring fram : List ℕ) (a : FirstSave) → first-save-stop firmware ring fram (first-call u a) ≡ none
-    → let events = to-its-end u (fresh firmware ring fram) (first-saved (first-call u a)) in
-    Allowed u (fresh firmware ring fram) events × (run u (fresh firmware ring fram) events .journal .entry ≡ some (first-checkpoint (firmware .form) (first-call u a)))
-made u firmware ring fram a e = let w = first-save-whole u firmware ring fram a e in (w .passed .allowed, w .ended .entry)
+made : (u : Setup) (firmware : Firmware) (ring fram : List ℕ) (a : SaveArguments) (tag : List ℕ) → save-stop firmware ring fram (saving u a (from-tag tag)) ≡ none
+    → let events = to-its-end u (fresh firmware ring fram) (saved (saving u a (from-tag tag))) in
+    Allowed u (fresh firmware ring fram) events × (run u (fresh firmware ring fram) events .journal .entry ≡ some (save-checkpoint (firmware .form) (saving u a (from-tag tag))))
+made u firmware ring fram a tag e = let w = first-save-whole u firmware ring fram a tag e in (w .passed .allowed, w .ended .entry)
 
 pub first-save-recorded : FirstSaveRecorded
 unfolding FirstSaveRecorded
-first-save-recorded u firmware ring fram a p q e =
-    let path : first-call u a ≡ a = λ i. record { arguments = same-arguments u (a .arguments) p q i; starting-tag = a .starting-tag } in
-    subst (λ (y : FirstSave). let events = to-its-end u (fresh firmware ring fram) (first-saved y) in
-    Allowed u (fresh firmware ring fram) events × (run u (fresh firmware ring fram) events .journal .entry ≡ some (first-checkpoint (firmware .form) y))) path (made u firmware ring fram a (subst (λ (y : FirstSave). first-save-stop firmware ring fram y ≡ none) (sym path) e))
+first-save-recorded u firmware ring fram a tag p q e =
+    let path : saving u a (from-tag tag) ≡ saves a (from-tag tag) = λ i. saves (same-arguments u a p q i) (from-tag tag) in
+    subst (λ (y : Saves). let events = to-its-end u (fresh firmware ring fram) (saved y) in
+    Allowed u (fresh firmware ring fram) events × (run u (fresh firmware ring fram) events .journal .entry ≡ some (save-checkpoint (firmware .form) y))) path (made u firmware ring fram a tag (subst (λ (y : Saves). save-stop firmware ring fram y ≡ none) (sym path) e))

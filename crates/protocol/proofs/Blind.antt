@@ -4,7 +4,7 @@ use mathlib.Core.Path.{_≡_, refl}
 use mathlib.Core.Option.{Option, none, some}
 use mathlib.Core.List.{List}
 use Rattle.protocol.specs.Types.{Start, Begun, Stopped, Progress, GoingOn, Saved, Restored, Refused}
-use Rattle.protocol.specs.Calls.{Setup, Event, first-saved, saved, powered-up, advanced-by, PowerLoss, updated-to, lost-in-store}
+use Rattle.protocol.specs.Calls.{Setup, Event, saved, powered-up, advanced-by, PowerLoss, updated-to, lost-in-store}
 use Rattle.protocol.specs.Operations.{Begin, Moved}
 use Rattle.protocol.specs.Journal.{entered, Journal}
 use Rattle.protocol.specs.History.{State, Handed, begun, moved, broken, step, is-stop, is-stopped, refused, left-by}
@@ -28,7 +28,6 @@ broken-journal u s (some h) left j = refl
 
 pub blind : (u : Setup) (s : State) (e : Event) → step u s e .journal ≡ entered u (s .firmware .form) (s .journal) e (refused s e)
 unfolding step left-by
-blind u s (first-saved a) = begun-journal s _ _ _ _
 blind u s (saved a) = begun-journal s _ _ _ _
 blind u s (powered-up a) = begun-journal s _ _ _ _
 blind u s (advanced-by a) = moved-journal s _ _ _ _

@@ -9,8 +9,8 @@ use Rattle.ring.specs.Ring.{page-before}
 use Rattle.ring.proofs.StoreLaws.{erased-is}
 use Rattle.checkpoint.specs.Checkpoint.{Checkpoint}
 use Rattle.protocol.specs.Types.{Job, Session, Origin, Save, PowerUp, Phase, EraseFirst, Words, Record, EraseAfter, Done}
-use Rattle.protocol.specs.Calls.{Sizes, Advances, Event, first-saved, saved, powered-up, advanced-by, PowerLoss, updated-to, lost-in-store}
-use Rattle.protocol.specs.Operations.{no-job, going-on, ended, stored-word, recorded, erase-follows, after-record, store, advance-by, advance, begin, first-save, save, power-up, finished, no-session, session-of}
+use Rattle.protocol.specs.Calls.{Sizes, Advances, Event, saved, powered-up, advanced-by, PowerLoss, updated-to, lost-in-store}
+use Rattle.protocol.specs.Operations.{no-job, going-on, ended, stored-word, recorded, erase-follows, after-record, store, advance-by, advance, begin, save, power-up, finished, no-session, session-of}
 use Rattle.protocol.specs.History.{State, broken-ring, broken-fram, is-stop, bytes-of}
 use Rattle.protocol.specs.Recovery.{start-answer, is-going, Exact}
 use Rattle.protocol.proofs.Refused.{store-answers}
@@ -72,8 +72,7 @@ store-session (EraseAfter p) ring fram a = ended-session (a .job .origin) (sessi
 store-session Done ring fram a = ended-session (a .job .origin) (session-of (a .job))
 
 pub exact : (s : State) (e : Event) → Exact s e
-unfolding Exact first-save save power-up advance advance-by
-exact s (first-saved a) = (begin-answers _ _ _ _ _ _ _, λ t. begin-leaves _ _ _ _ _ _ _ t)
+unfolding Exact save power-up advance advance-by
 exact s (saved a) = (begin-answers _ _ _ _ _ _ _, λ t. begin-leaves _ _ _ _ _ _ _ t)
 exact s (powered-up a) = (begin-answers _ _ _ _ _ _ _, λ t. begin-leaves _ _ _ _ _ _ _ t)
 exact s (advanced-by a) = (

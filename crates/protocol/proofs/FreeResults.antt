@@ -15,8 +15,8 @@ use Rattle.ring.proofs.NewestLaws.{newest-is-record}
 use Rattle.ring.proofs.StoreLaws.{newest-latest}
 use Rattle.checkpoint.specs.Checkpoint.{Form, Older, Longer}
 use Rattle.protocol.specs.Types.{Firmware, Job, Session, Refused, Stopped}
-use Rattle.protocol.specs.Calls.{Sizes, Saves, Advances}
-use Rattle.protocol.specs.Operations.{stale, begin, no-job, save-stop, save, no-session, job-wrong, advance-stop, advance-by, advance}
+use Rattle.protocol.specs.Calls.{Sizes, from-session, SaveArguments, Saves, saves, Advances}
+use Rattle.protocol.specs.Operations.{stale, begin, no-job, ring-lines, save-stop, save, no-session, job-wrong, advance-stop, advance-by, advance}
 use Rattle.protocol.proofs.Facts.{no-fact}
 
 -- ---- no job
@@ -83,10 +83,11 @@ unfolding save begin
 save-stops firmware ring fram a x e = rw e
 
 -- a save with it always stops, by 8 at the latest
-pub no-session-stops : (firmware : Firmware) (ring fram : List ℕ) (a : Saves) → a .session ≡ no-session → (x : ℕ) × (save firmware ring fram a .answer ≡ Stopped x) × By8 x
-unfolding save-stop
-no-session-stops firmware ring fram a e =
-    let z : Sizes = a .arguments .sizes in
+pub no-session-stops : (firmware : Firmware) (ring fram : List ℕ) (a : SaveArguments) (z : Session) → z ≡ no-session
+    → (x : ℕ) × (save firmware ring fram (saves a (from-session z)) .answer ≡ Stopped x) × By8 x
+unfolding save-stop ring-lines
+no-session-stops firmware ring fram a session e =
+    let z : Sizes = a .sizes in
     let s = eight-stop _ _ _ _ _ _ _ _ _ _ (λ r b u.
     ap (λ (y : Session). stale ring (z .slots) (read-ring ring (z .pages) (z .slots)) y) e ∙ no-session-stale ring z r b u) in
-    (s .0, save-stops firmware ring fram a (s .0) (s .1), s .2)
+    (s .0, save-stops firmware ring fram (saves a (from-session session)) (s .0) (s .1), s .2)

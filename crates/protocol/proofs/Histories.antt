@@ -10,7 +10,7 @@ use native.Mathlib.Omega.{arith}
 use lib.ListN.{replicate, length, length-replicate}
 use lib.Dec.{lit<, lit≤, eqb, ltb}
 use borrow.Author.Tests.{eq-eqb, le-ltb, not-false}
-use Rattle.octets.specs.Limits.{pages-least, slots-least, slot-length, restart-limit, packet-limit, key-length, nonce-length}
+use Rattle.octets.specs.Limits.{pages-least, slots-least, slot-length, restart-limit, packet-limit, key-length, nonce-length, tag-length}
 use Rattle.octets.specs.Octets.{erased, blank, put, number, bytes}
 use Rattle.octets.proofs.Laws.{blank-erased}
 use Rattle.octets.proofs.Numbers.{length-bytes, number-bytes}
@@ -25,18 +25,17 @@ use Rattle.checkpoint.proofs.StoredLaws.{packet-small}
 use Rattle.checkpoint.specs.Fram.{fram-wrong, half-length}
 use Rattle.checkpoint.specs.Checkpoint.{Form, Older, Longer, Checkpoint, sealed, empty-length, sealed-length}
 use Rattle.checkpoint.proofs.FramLaws.{an-image, fram-kept, half-sizes, half-kept}
-use Rattle.protocol.specs.Types.{Firmware, first-firmware, this-firmware, Session, Save, PowerUp, Words, EraseFirst, Stopped}
-use Rattle.protocol.specs.Calls.{FirstSave, Saves, PowersUp, Setup, Event, first-saved, saved, powered-up, updated-to}
-use Rattle.protocol.specs.Operations.{key-wrong, nonce-wrong, staging-wrong, parts-wrong, packet-wrong, session-wrong, save-restarts, written-number, larger, stale, Begin, job-of, first-phase, power-up, first-checkpoint, first-save-stop, save-checkpoint, save-stop}
+use Rattle.protocol.specs.Types.{Firmware, first-firmware, this-firmware, Session, Save, PowerUp, EraseFirst, Stopped}
+use Rattle.protocol.specs.Calls.{From, from-tag, from-session, SaveArguments, Saves, PowersUp, Setup, Event, saved, powered-up, updated-to}
+use Rattle.protocol.specs.Operations.{key-wrong, nonce-wrong, staging-wrong, parts-wrong, packet-wrong, session-wrong, save-restarts, written-number, larger, stale, Begin, job-of, first-phase, power-up, from-wrong, number-from, restarts-from, save-checkpoint, ring-lines, save-stop}
 use Rattle.protocol.specs.Journal.{entered, dropped, drafted, stores-of, power-up-draft, empty}
-use Rattle.protocol.specs.History.{State, fresh, left-by, step, run, Succeeds, Keeps, Allowed}
+use Rattle.protocol.specs.History.{State, Handed, fresh, left-by, step, run, Succeeds, HandedOut, Keeps, Allowed}
 use Rattle.protocol.specs.Recovery.{Fits, Last}
-use Rattle.protocol.specs.Histories.{smallest, bench-state, but-the-last, interrupted, interrupted-unit, Interrupted, Examples, to-its-end, staging-room, state-room, numbered-first, numbered-save, numbered-power-up, with-session, saves-on, power-ups-on, history, Reachable, repeats-on, repeats, StaleRepeats, newer, NewerPacket, InOrder, updating, Updates, bench-fram, UpdatedInErase, OutgrownExample}
+use Rattle.protocol.specs.Histories.{smallest, bench-state, but-the-last, interrupted, interrupted-unit, Interrupted, Examples, to-its-end, staging-room, state-room, numbered-arguments, numbered-first, numbered-save, numbered-power-up, with-session, saves-on, power-ups-on, history, Reachable, repeats-on, repeats, StaleRepeats, newer, NewerPacket, InOrder, updating, Updates, bench-fram, UpdatedInErase, OutgrownExample}
 use Rattle.protocol.proofs.Facts.{no-fact}
 use Rattle.protocol.proofs.Invariant.{half-of, session-in, Holds, Ended}
 use Rattle.protocol.proofs.Reading.{reads, record-found, new-nonce}
-use Rattle.protocol.proofs.FirstSaves.{first-call, first-begun, first-step}
-use Rattle.protocol.proofs.Saves.{saving-job, save-begun, save-step}
+use Rattle.protocol.proofs.Saves.{saving, saving-checkpoint, saving-job, save-begun, save-step}
 use Rattle.protocol.proofs.PowerUps.{Entry, resuming-job, resuming-holds, step-is}
 use Rattle.protocol.proofs.Lists.{hold-fresh}
 use Rattle.protocol.proofs.Recovery.{stop-none, power-up-begins, outcome}
@@ -99,8 +98,8 @@ no-number Longer packet e = e
 -- ---- the first save
 
 first-passes : (u : Setup) (firmware : Firmware) (ring fram : List ℕ) → blank ring ≡ true → Fits u firmware ring fram → empty-length (firmware .form) ≤ half-length fram
-    → (i : ℕ) → first-save-stop firmware ring fram (numbered-first u firmware i) ≡ none
-unfolding first-save-stop first-of
+    → (i : ℕ) → save-stop firmware ring fram (numbered-first u firmware i) ≡ none
+unfolding save-stop from-wrong ring-lines first-of
 first-passes u firmware ring fram b f l i =
     rw (f .ring-right, f .fram-right, sizes-pass u (f .key-right) i, parts-pass firmware fram (f .fram-right) l, packet-passes (firmware .form) 0 (lit≤ tt), b)
 
@@ -148,31 +147,42 @@ after-whole u s n c events w e b h z o p fr l q = record {
   made-in = q ∙ sym (ap (λ (x : Firmware). x .form) (w .passed .firmware));
 }
 
--- a first save that does not stop
-pub first-save-whole : (u : Setup) (firmware : Firmware) (ring fram : List ℕ) (a : FirstSave) → first-save-stop firmware ring fram (first-call u a) ≡ none
-    → Whole u (fresh firmware ring fram) (first-checkpoint (firmware .form) (first-call u a)) (a .arguments .nonce) (to-its-end u (fresh firmware ring fram) (first-saved (first-call u a)))
-unfolding drafted first-checkpoint Keeps fresh first-save-stop
-first-save-whole u firmware ring fram a e =
-    let s : State = fresh firmware ring fram in
-    let c : Checkpoint = first-checkpoint (firmware .form) (first-call u a) in
+-- a save that does not stop
+module _ (u : Setup) (s : State) (inv : Holds u s) (a : SaveArguments) (from : From) (new : List·Memᴰ (a .nonce) (s .nonces) → ⊥) (mine : HandedOut from (s .sessions))
+    (e : save-stop (s .firmware) (s .ring) (s .fram) (saving u a from) ≡ none) where
+  abbrev made-checkpoint : Checkpoint
+  made-checkpoint = saving-checkpoint u s inv a from new mine
+
+  abbrev made-handed : Handed
+  made-handed = record { job = saving-job u s inv a from new mine; staging = put (a .staging) 0 (sealed (u .key) made-checkpoint) }
+
+  saved-whole : Whole u s made-checkpoint (a .nonce) (to-its-end u s (saved (saving u a from)))
+  unfolding drafted save-checkpoint Keeps
+  saved-whole =
+      let is = save-step u s inv a from new mine e in
+      whole u s (saved (saving u a from)) made-checkpoint Save (a .nonce) made-handed
+      (refl, refl, new, mine) (subst (λ (y : State). Holds u y) (sym is) (save-begun u s inv a from new mine e))
+      (ap (λ (y : State). y .handed) is) (ap (λ (y : State). y .journal .draft) is) (ap (λ (y : State). y .journal .count) is) (ap (λ (y : State). y .nonces) is) (ap (λ (y : State). y .firmware) is) (ap (λ (y : State). y .fram) is)
+
+-- one with a starting tag
+pub first-save-whole : (u : Setup) (firmware : Firmware) (ring fram : List ℕ) (a : SaveArguments) (tag : List ℕ) → save-stop firmware ring fram (saving u a (from-tag tag)) ≡ none
+    → Whole u (fresh firmware ring fram) (save-checkpoint (firmware .form) (saving u a (from-tag tag))) (a .nonce) (to-its-end u (fresh firmware ring fram) (saved (saving u a (from-tag tag))))
+unfolding fresh save-stop ring-lines HandedOut
+first-save-whole u firmware ring fram a tag e =
     let p = passes _ e in
     let inv = hold-fresh u firmware ring fram (p .0) (an-image (firmware .largest-fram) fram (p .1 .0)) (not-false _ (p .1 .1 .1 .1 .1 .0)) in
-    let unused : List·Memᴰ (a .arguments .nonce) (s .nonces) → ⊥ = λ m. absurd (List·Memᴰ·not-nil m) in
-    let is = first-step u s inv a unused e in
-    whole u s (first-saved (first-call u a)) c Save (a .arguments .nonce) (record { job = job-of (u .key) c (Words 0) Save 0 0 0; staging = put (a .arguments .staging) 0 (sealed (u .key) c) })
-    (refl, refl, unused) (subst (λ (y : State). Holds u y) (sym is) (first-begun u s inv a unused e))
-    (ap (λ (y : State). y .handed) is) (ap (λ (y : State). y .journal .draft) is) (ap (λ (y : State). y .journal .count) is) (ap (λ (y : State). y .nonces) is) (ap (λ (y : State). y .firmware) is) (ap (λ (y : State). y .fram) is)
+    saved-whole u (fresh firmware ring fram) inv a (from-tag tag) (λ m. absurd (List·Memᴰ·not-nil m)) tt e
 
 module _ (u : Setup) (firmware : Firmware) (ring fram : List ℕ) (b : blank ring ≡ true) (f : Fits u firmware ring fram) (l : empty-length (firmware .form) ≤ half-length fram) where
   abbrev start : State
   start = fresh firmware ring fram
 
-  first-whole : Whole u start (first-checkpoint (firmware .form) (numbered-first u firmware 0)) (bytes nonce-length 0) (to-its-end u start (first-saved (numbered-first u firmware 0)))
-  first-whole = first-save-whole u firmware ring fram (numbered-first u firmware 0) (first-passes u firmware ring fram b f l 0)
+  first-whole : Whole u start (save-checkpoint (firmware .form) (numbered-first u firmware 0)) (bytes nonce-length 0) (to-its-end u start (saved (numbered-first u firmware 0)))
+  first-whole = first-save-whole u firmware ring fram (numbered-arguments u firmware 0 0) (replicate tag-length 0) (first-passes u firmware ring fram b f l 0)
 
-  first-after : After u (run u start (to-its-end u start (first-saved (numbered-first u firmware 0)))) 1 0
-  unfolding fresh empty first-checkpoint
-  first-after = after-whole u start 0 (first-checkpoint (firmware .form) (numbered-first u firmware 0)) (to-its-end u start (first-saved (numbered-first u firmware 0)))
+  first-after : After u (run u start (to-its-end u start (saved (numbered-first u firmware 0)))) 1 0
+  unfolding fresh empty save-checkpoint number-from restarts-from
+  first-after = after-whole u start 0 (save-checkpoint (firmware .form) (numbered-first u firmware 0)) (to-its-end u start (saved (numbered-first u firmware 0)))
       first-whole refl (λ m k. absurd (List·Memᴰ·not-nil k)) (lit< tt) (no-number (firmware .form) 0 refl) refl refl (f .fram-right) l refl
 
 -- a power-up
@@ -247,7 +257,8 @@ module _ (u : Setup) (key-long : length (u .key) ≡ key-length) (s : State) (n 
   abbrev call-here : Saves
   call-here = numbered-save u (s .firmware) n p session-here
 
-  mine : List·Memᴰ session-here (s .sessions)
+  mine : HandedOut (from-session session-here) (s .sessions)
+  unfolding HandedOut
   mine = rw (x .ended .session) (List·Memᴰ·head refl)
 
   not-stale : stale (s .ring) (u .sizes .slots) (found (u .sizes .pages) (u .sizes .slots) (s .journal .count) (s .journal .owed)) session-here ≡ false
@@ -256,7 +267,7 @@ module _ (u : Setup) (key-long : length (u .key) ≡ key-length) (s : State) (n 
       (x .ended .owed) (record-found (x .standing .holds .fram-right) (x .standing .entry))
 
   save-passes : save-stop (s .firmware) (s .ring) (s .fram) call-here ≡ none
-  unfolding save-stop first-of
+  unfolding save-stop from-wrong ring-lines first-of
   save-passes =
       let inv = x .standing .holds in
       let r = x .standing .entry in
@@ -279,14 +290,7 @@ module _ (u : Setup) (key-long : length (u .key) ≡ key-length) (s : State) (n 
   kept = save-checkpoint (s .firmware .form) call-here
 
   save-whole : Whole u s kept (bytes nonce-length n) (to-its-end u s (saved call-here))
-  unfolding drafted save-checkpoint Keeps
-  save-whole =
-      let new = new-here u key-long s n k (x .standing) h in
-      let is = save-step u s (x .standing .holds) call-here new mine save-passes in
-      whole u s (saved call-here) kept Save (bytes nonce-length n)
-      (record { job = saving-job u s (x .standing .holds) call-here new mine; staging = put (staging-room (s .firmware)) 0 (sealed (u .key) kept) })
-      (refl, refl, new, mine) (subst (λ (y : State). Holds u y) (sym is) (save-begun u s (x .standing .holds) call-here new mine save-passes))
-      (ap (λ (y : State). y .handed) is) (ap (λ (y : State). y .journal .draft) is) (ap (λ (y : State). y .journal .count) is) (ap (λ (y : State). y .nonces) is) (ap (λ (y : State). y .firmware) is) (ap (λ (y : State). y .fram) is)
+  save-whole = saved-whole u s (x .standing .holds) (numbered-arguments u (s .firmware) n p) (from-session session-here) (new-here u key-long s n k (x .standing) h) mine save-passes
 
   -- its restarts: with packet number 0 they carry over, and a save of the older form sets them to 0
   abbrev carried : ℕ
@@ -299,7 +303,7 @@ module _ (u : Setup) (key-long : length (u .key) ≡ key-length) (s : State) (n 
     same-packet = no-number (s .firmware .form) _ (rw (le-ltb (x .standing .c .packet) p (omega arith)) (x .standing .no-packet))
 
     save-after : After u (run u s (to-its-end u s (saved call-here))) (suc n) (save-restarts (s .firmware .form) p (x .standing .c .packet) (x .standing .c .restarts))
-    unfolding save-checkpoint
+    unfolding save-checkpoint number-from restarts-from
     save-after = after-whole u s n kept (to-its-end u s (saved call-here)) save-whole (x .standing .count) (x .standing .numbers) h same-packet refl refl (x .standing .framed) (x .standing .enough) refl
 
   -- the power fails in its erase after, and leaves a page that is not blank
@@ -308,16 +312,18 @@ module _ (u : Setup) (key-long : length (u .key) ≡ key-length) (s : State) (n 
     save-lost : Allowed u s (but-the-last u s (saved call-here) left) × Owing u s (run u s (but-the-last u s (saved call-here) left)) kept (bytes nonce-length n)
     unfolding drafted save-checkpoint Keeps
     save-lost =
+        let inv = x .standing .holds in
+        let a = numbered-arguments u (s .firmware) n p in
+        let from = from-session session-here in
         let new = new-here u key-long s n k (x .standing) h in
-        let is = save-step u s (x .standing .holds) call-here new mine save-passes in
-        lost-in-erase u s (saved call-here) kept Save (bytes nonce-length n)
-        (record { job = saving-job u s (x .standing .holds) call-here new mine; staging = put (staging-room (s .firmware)) 0 (sealed (u .key) kept) }) left
-        (refl, refl, new, mine) (subst (λ (y : State). Holds u y) (sym is) (save-begun u s (x .standing .holds) call-here new mine save-passes))
+        let is = save-step u s inv a from new mine save-passes in
+        lost-in-erase u s (saved call-here) kept Save (bytes nonce-length n) (made-handed u s inv a from new mine save-passes) left
+        (refl, refl, new, mine) (subst (λ (y : State). Holds u y) (sym is) (save-begun u s inv a from new mine save-passes))
         (ap (λ (y : State). y .handed) is) (ap (λ (y : State). y .journal .draft) is) (ap (λ (y : State). y .journal .count) is) (ap (λ (y : State). y .nonces) is) (ap (λ (y : State). y .firmware) is) (ap (λ (y : State). y .fram) is)
         opens long used
 
     standing-lost : p ≡ 0 → Standing u (run u s (but-the-last u s (saved call-here) left)) (suc n) (save-restarts (s .firmware .form) p (x .standing .c .packet) (x .standing .c .restarts))
-    unfolding save-checkpoint
+    unfolding save-checkpoint number-from restarts-from
     standing-lost unheard =
         let o = save-lost .1 in
         record {
@@ -395,7 +401,7 @@ history-row u firmware ring fram b f l n k few h =
     s = fresh firmware ring fram
 
     first : List Event
-    first = to-its-end u s (first-saved (numbered-first u firmware 0))
+    first = to-its-end u s (saved (numbered-first u firmware 0))
 
     saves : List Event
     saves = saves-on u 1 n (run u s first)
@@ -489,7 +495,7 @@ module _ (u : Setup) (key-long : length (u .key) ≡ key-length) where
 -- after the first save
 module _ (u : Setup) (firmware : Firmware) (ring fram : List ℕ) (b : blank ring ≡ true) (f : Fits u firmware ring fram) (l : empty-length (firmware .form) ≤ half-length fram) where
   abbrev saved-once : State
-  saved-once = run u (fresh firmware ring fram) (to-its-end u (fresh firmware ring fram) (first-saved (numbered-first u firmware 0)))
+  saved-once = run u (fresh firmware ring fram) (to-its-end u (fresh firmware ring fram) (saved (numbered-first u firmware 0)))
 
   form-kept : saved-once .firmware .form ≡ firmware .form
   unfolding fresh
@@ -499,7 +505,7 @@ pub stale-repeats : StaleRepeats
 unfolding StaleRepeats repeats fresh
 stale-repeats u firmware longer ring fram b f enough k few =
     let s = fresh firmware ring fram in
-    let first = to-its-end u s (first-saved (numbered-first u firmware 0)) in
+    let first = to-its-end u s (saved (numbered-first u firmware 0)) in
     let l : empty-length (firmware .form) ≤ half-length fram = rw longer enough in
     let o : 0 + k ≡ k = omega arith in
     let row = repeats-row u (f .key-right) 1 k 0 (run u s first) (form-kept u firmware ring fram b f l ∙ longer) (first-after u firmware ring fram b f l) (omega arith) (omega arith) in
@@ -520,7 +526,7 @@ module _ (u : Setup) (key-long : length (u .key) ≡ key-length) (s : State) (n 
 
   heard : (Allowed u s hears) × (run u s hears .journal .power-ups ≡ 0)
       × (c : Checkpoint) × (run u s hears .journal .entry ≡ some c) × (c .restarts ≡ 0) × (c .packet ≡ 1)
-  unfolding save-checkpoint
+  unfolding save-checkpoint number-from restarts-from
   heard =
       let w = save-whole u key-long s n k x h 1 (lit≤ tt) in
       let c = kept u key-long s n k x h 1 (lit≤ tt) in

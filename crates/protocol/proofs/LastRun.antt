@@ -12,7 +12,7 @@ use lib.Seq.{take-append-seam}
 use Rattle.ring.specs.Ring.{newest-record}
 use Rattle.checkpoint.specs.Checkpoint.{Checkpoint, own-tag, sealed}
 use Rattle.protocol.specs.Types.{PowerUp, Progress, GoingOn, Restored}
-use Rattle.protocol.specs.Calls.{Advances, Setup, Event, first-saved, saved, powered-up, advanced-by, PowerLoss, lost-in-store}
+use Rattle.protocol.specs.Calls.{Advances, Setup, Event, saved, powered-up, advanced-by, PowerLoss, lost-in-store}
 use Rattle.protocol.specs.Operations.{finished, ended, advance, newest-half}
 use Rattle.protocol.specs.Journal.{Journal, Store, word, record-slot, erase-if, stores-of}
 use Rattle.protocol.specs.History.{State, Handed, step, run, refused, is-stopped, Keeps}
@@ -96,7 +96,6 @@ answering-refused u s e more r k =
 answering-advance : (u : Setup) (s : State) (e : Event) (more : List Event) → T (is-advance e) → Keeps u s e → Answering u (step u s e) more (answers u more (step u s e))
     → Answering u s (e ∷ more) (answers u (e ∷ more) s)
 unfolding Answering is-advance Keeps
-answering-advance u s (first-saved a) more t k l = absurd t
 answering-advance u s (saved a) more t k l = absurd t
 answering-advance u s (powered-up a) more t k l = absurd t
 answering-advance u s PowerLoss more t k l = absurd t

@@ -11,7 +11,7 @@ use Rattle.octets.specs.Octets.{blank}
 use Rattle.checkpoint.specs.Fram.{fram-wrong}
 use Rattle.checkpoint.proofs.FramLaws.{an-image, fram-kept}
 use Rattle.protocol.specs.Types.{Firmware, Phase, EraseFirst, Words, Record, EraseAfter, Done, Start, Begun, Stopped}
-use Rattle.protocol.specs.Calls.{Advances, Setup, Event, first-saved, saved, powered-up, advanced-by, PowerLoss, updated-to, lost-in-store}
+use Rattle.protocol.specs.Calls.{Advances, Setup, Event, saved, powered-up, advanced-by, PowerLoss, updated-to, lost-in-store}
 use Rattle.protocol.specs.Operations.{Begin}
 use Rattle.protocol.specs.Journal.{Journal, entered}
 use Rattle.protocol.specs.History.{State, Handed, refused, begun, broken-fram, broken, left-by, fresh, step, run, Left, Keeps, Allowed}
@@ -39,7 +39,6 @@ lost-kept u s h left inv Done d l = refl
 
 keeps-kept : (u : Setup) (s : State) (e : Event) → Holds u s → Keeps u s e → length (step u s e .fram) ≡ length (s .fram)
 unfolding Keeps step left-by broken
-keeps-kept u s (first-saved a) inv k = begun-kept s _ _ _ _
 keeps-kept u s (saved a) inv k = begun-kept s _ _ _ _
 keeps-kept u s (powered-up a) inv k = begun-kept s _ _ _ _
 keeps-kept u s (advanced-by a) inv (p, e) =

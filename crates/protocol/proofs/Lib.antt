@@ -10,7 +10,6 @@ pub mod Records
 pub mod Advancing
 pub mod Told
 pub mod Starts
-pub mod FirstSaves
 pub mod Saves
 pub mod Turns
 pub mod PowerUps
@@ -27,6 +26,7 @@ pub mod FreeResults
 pub mod Sequence
 pub mod Interrupted
 pub mod Histories
+pub mod EntryLaws
 pub mod OlderLaws
 pub mod BeyondLaws
 pub mod OrderLaws

@@ -10,7 +10,7 @@ use Rattle.octets.specs.Octets.{blank}
 use Rattle.ring.specs.Ring.{ring-wrong}
 use Rattle.checkpoint.proofs.FramLaws.{Image}
 use Rattle.protocol.specs.Types.{Firmware}
-use Rattle.protocol.specs.Calls.{Setup, Event, first-saved, saved, powered-up, advanced-by, PowerLoss, updated-to, lost-in-store}
+use Rattle.protocol.specs.Calls.{Setup, Event, saved, powered-up, advanced-by, PowerLoss, updated-to, lost-in-store}
 use Rattle.protocol.specs.Journal.{empty}
 use Rattle.protocol.specs.History.{State, fresh, step, run, refused, Keeps, Allowed}
 use Rattle.protocol.specs.Recovery.{Follows, Exactly, Uninterrupted}
@@ -20,7 +20,6 @@ use Rattle.protocol.proofs.Exact.{exact}
 use Rattle.protocol.proofs.Unfit.{Unfit, unfit-step, unfit-told}
 use Rattle.protocol.proofs.Advancing.{hold-advanced}
 use Rattle.protocol.proofs.Told.{told}
-use Rattle.protocol.proofs.FirstSaves.{hold-first}
 use Rattle.protocol.proofs.Saves.{hold-saved}
 use Rattle.protocol.proofs.PowerUps.{hold-powered-up}
 use Rattle.protocol.proofs.PowerLosses.{hold-power-loss, hold-updated, hold-lost-in-store}
@@ -28,7 +27,6 @@ use Rattle.protocol.proofs.PowerLosses.{hold-power-loss, hold-updated, 
 pub hold-step : (u : Setup) (s : State) (e : Event) → Holds u s → T (refused s e) ⊎ Keeps u s e → Holds u (step u s e)
 unfolding Keeps
 hold-step u s e inv (inl t) = rw (step-refused u s e t) inv
-hold-step u s (first-saved a) inv (inr k) = hold-first u s a inv k
 hold-step u s (saved a) inv (inr k) = hold-saved u s a inv k
 hold-step u s (powered-up a) inv (inr k) = hold-powered-up u s a inv k
 hold-step u s (advanced-by a) inv (inr k) = hold-advanced u s inv a k
@@ -43,7 +41,6 @@ hold-run u (e ∷ more) s inv k = hold-run u more (step u s e) (hold-step u s e 
 
 tells : (u : Setup) (s : State) (e : Event) → Holds u s → Follows u s e
 unfolding Follows
-tells u s (first-saved a) inv = tt
 tells u s (saved a) inv = tt
 tells u s (powered-up a) inv = tt
 tells u s (advanced-by a) inv = told u s inv a

@@ -16,7 +16,7 @@ use Rattle.checkpoint.specs.Checkpoint.{Checkpoint, sealed-length}
 use Rattle.checkpoint.specs.Fram.{fram-wrong, half-length}
 use Rattle.protocol.specs.Types.{Order, NonceFirst, HalfFirst, Firmware, Start, Begun, Stopped}
 use Rattle.protocol.specs.Calls.{PowersUp, Setup, powered-up}
-use Rattle.protocol.specs.Operations.{Begin, state-wrong, parts-wrong, newest-in, in-turn, half-lines, newest-checkpoint, first-save-stop, first-save, save-stop, save, power-up-stop, power-up, look-stop, look, open-stretch, advance-stop, advance}
+use Rattle.protocol.specs.Operations.{Begin, state-wrong, parts-wrong, newest-in, in-turn, half-lines, newest-checkpoint, ring-lines, save-stop, save, power-up-stop, power-up, look-stop, look, open-stretch, advance-stop, advance}
 use Rattle.protocol.specs.History.{State, fresh, run}
 use Rattle.protocol.specs.Recovery.{start-answer, Started, Exact, Outgrown}
 use Rattle.protocol.specs.Orders.{ordered, Together, OthersSame, OrdersCompared, AnyNonce, Answers, WornAndUsed, WornWhateverNonce}
@@ -67,8 +67,8 @@ module _ (firmware : Firmware) (ring fram : List ℕ) (a : PowersUp) where
       omega (arith, above-ten x t)
 
 others-same : (firmware : Firmware) (ring fram : List ℕ) (order other : Order) → OthersSame firmware ring fram order other
-unfolding first-save first-save-stop save save-stop look look-stop open-stretch advance advance-stop parts-wrong
-others-same firmware ring fram order other = record { first-save = λ a. refl; save = λ a. refl; look = λ a. refl; stretch = λ a. refl; advance = λ a. refl }
+unfolding save save-stop ring-lines look look-stop open-stretch advance advance-stop parts-wrong
+others-same firmware ring fram order other = record { save = λ a. refl; look = λ a. refl; stretch = λ a. refl; advance = λ a. refl }
 
 pub orders-compared : OrdersCompared
 unfolding OrdersCompared

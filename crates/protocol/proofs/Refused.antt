@@ -8,8 +8,8 @@ use lib.Dec.{T}
 use Rattle.ring.specs.Ring.{page-before, page-erased}
 use Rattle.checkpoint.specs.Checkpoint.{Checkpoint}
 use Rattle.protocol.specs.Types.{Origin, Save, PowerUp, Job, Phase, EraseFirst, Words, Record, EraseAfter, Done}
-use Rattle.protocol.specs.Calls.{Advances, Setup, Event, first-saved, saved, powered-up, advanced-by, PowerLoss, updated-to, lost-in-store}
-use Rattle.protocol.specs.Operations.{Moved, advance-stop, going-on, finished, ended, recorded, erase-follows, after-record, store, advance-by, advance, begin, first-save, save, power-up}
+use Rattle.protocol.specs.Calls.{Advances, Setup, Event, saved, powered-up, advanced-by, PowerLoss, updated-to, lost-in-store}
+use Rattle.protocol.specs.Operations.{Moved, advance-stop, going-on, finished, ended, recorded, erase-follows, after-record, store, advance-by, advance, begin, save, power-up}
 use Rattle.protocol.specs.Journal.{entered, Journal}
 use Rattle.protocol.specs.History.{State, begun, moved, left-by, step, is-stop, is-stopped, refused}
 use Rattle.protocol.proofs.Facts.{no-fact}
@@ -56,8 +56,7 @@ advance-refused s (some x) a j t = refl
 advance-refused s none a j t = no-fact (sym (T→true _ t) ∙ store-answers (a .job .phase) (s .ring) (s .fram) a)
 
 pub step-refused : (u : Setup) (s : State) (e : Event) → T (refused s e) → step u s e ≡ s
-unfolding step left-by entered refused first-save save power-up advance
-step-refused u s (first-saved a) t = start-refused s _ _ _ _ _ _ _ _ _ t
+unfolding step left-by entered refused save power-up advance
 step-refused u s (saved a) t = start-refused s _ _ _ _ _ _ _ _ _ t
 step-refused u s (powered-up a) t = start-refused s _ _ _ _ _ _ _ _ _ t
 step-refused u s (advanced-by a) t = advance-refused s (advance-stop (s .firmware) (s .ring) (s .fram) a) a _ t

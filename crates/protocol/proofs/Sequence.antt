@@ -1,4 +1,4 @@
--- Where a first save begins (document 01: "half A, page 0, slot 0"), and the order of a checkpoint's words (document 01: "Words go from
+-- Where a save with a starting tag begins (document 01: "half A, page 0, slot 0"), and the order of a checkpoint's words (document 01: "Words go from
 -- front to back"). Assumes nothing.
 use Prim.Native.Nat.{ℕ, _+_, _*_, _<_, _%_}
 use mathlib.Core.Path.{_≡_, refl, ap, subst, _∙_}
@@ -12,11 +12,11 @@ use borrow.Author.Tests.{eqb-true, eqb-false, leb-false, not-false}
 use Rattle.stops.proofs.Laws.{neither}
 use Rattle.checkpoint.specs.Checkpoint.{Form, Checkpoint}
 use Rattle.protocol.specs.Types.{Firmware, Phase, Words, Record, Job, Begun, Save}
-use Rattle.protocol.specs.Calls.{Sizes, FirstSave, Advances}
-use Rattle.protocol.specs.Operations.{begin, job-of, first-checkpoint, first-save-stop, first-save, in-phase, phase-wrong, job-wrong, going-on, store, advance-stop, advance-by, advance}
+use Rattle.protocol.specs.Calls.{Sizes, from-tag, SaveArguments, saves, Advances}
+use Rattle.protocol.specs.Operations.{begin, job-of, save-checkpoint, save-target, save-stop, save, in-phase, phase-wrong, job-wrong, going-on, store, advance-stop, advance-by, advance}
 use Rattle.protocol.proofs.Advancing.{job-passes}
 
--- ---- a first save
+-- ---- a save with a starting tag
 
 begin-job : (o : Option ℕ) (key : List ℕ) (c : Checkpoint) (job : Job) (staging state secret : List ℕ)
     → begin o key c job staging state secret .answer ≡ Begun → begin o key c job staging state secret .job ≡ job
@@ -25,13 +25,13 @@ begin-job none key c job staging state secret e = refl
 begin-job (some x) key c job staging state secret e = absurd (let z : _≡_ {A = ℕ} 0 1 = cc in omega arith)
 
 -- one that begins answers a job whose next store is word 0 of half A, and whose target is page 0, slot 0
-pub first-target : (firmware : Firmware) (ring fram : List ℕ) (a : FirstSave) → first-save firmware ring fram a .answer ≡ Begun
-    → (first-save firmware ring fram a .job .phase ≡ Words 0) × (first-save firmware ring fram a .job .half ≡ 0)
-    × (first-save firmware ring fram a .job .page ≡ 0) × (first-save firmware ring fram a .job .slot ≡ 0)
-unfolding first-save job-of
-first-target firmware ring fram a e =
-    let j = begin-job (first-save-stop firmware ring fram a) (a .arguments .key) (first-checkpoint (firmware .form) a) (job-of (a .arguments .key) (first-checkpoint (firmware .form) a) (Words 0) Save 0 0 0)
-    (a .arguments .staging) [] [] e in
+pub first-target : (firmware : Firmware) (ring fram : List ℕ) (a : SaveArguments) (tag : List ℕ)
+    → (let b = save firmware ring fram (saves a (from-tag tag)) in
+    b .answer ≡ Begun → (b .job .phase ≡ Words 0) × (b .job .half ≡ 0) × (b .job .page ≡ 0) × (b .job .slot ≡ 0))
+unfolding save save-target job-of
+first-target firmware ring fram a tag e =
+    let c = save-checkpoint (firmware .form) (saves a (from-tag tag)) in
+    let j = begin-job (save-stop firmware ring fram (saves a (from-tag tag))) (a .key) c (job-of (a .key) c (Words 0) Save 0 0 0) (a .staging) [] [] e in
     (ap (λ (y : Job). y .phase) j, ap (λ (y : Job). y .half) j, ap (λ (y : Job). y .page) j, ap (λ (y : Job). y .slot) j)
 
 -- ---- words

@@ -12,8 +12,8 @@ use Rattle.ring.specs.Ring.{ring-wrong}
 use Rattle.checkpoint.specs.Checkpoint.{Checkpoint}
 use Rattle.checkpoint.specs.Fram.{fram-wrong}
 use Rattle.protocol.specs.Types.{Job}
-use Rattle.protocol.specs.Calls.{Sizes, Setup, Event, first-saved, saved, powered-up, advanced-by, PowerLoss, updated-to, lost-in-store}
-use Rattle.protocol.specs.Operations.{begin, first-save-stop, first-save, save-stop, save, power-up-stop, power-up}
+use Rattle.protocol.specs.Calls.{Sizes, Setup, Event, saved, powered-up, advanced-by, PowerLoss, updated-to, lost-in-store}
+use Rattle.protocol.specs.Operations.{begin, save-stop, save, power-up-stop, power-up}
 use Rattle.protocol.specs.History.{State, Handed, left-by, step, is-stop, refused, Keeps}
 use Rattle.protocol.specs.Recovery.{Follows}
 use Rattle.protocol.proofs.Facts.{no-fact}
@@ -53,8 +53,7 @@ module _ (u : Setup) (s : State) (x : Unfit u s) where
   stays e t = rw (step-refused u s e t) x
 
   unfit-keeps : (e : Event) → Keeps u s e → Unfit u (step u s e)
-  unfolding Keeps refused first-save save power-up first-save-stop save-stop power-up-stop step left-by
-  unfit-keeps (first-saved a) (p, q, f) = stays (first-saved a) (begin-stops _ _ _ _ _ _ _ (two-stop _ _ _ (at-limit (a .arguments .sizes) p)))
+  unfolding Keeps refused save power-up save-stop power-up-stop step left-by
   unfit-keeps (saved a) (p, q, f, m) = stays (saved a) (begin-stops _ _ _ _ _ _ _ (two-stop _ _ _ (at-limit (a .arguments .sizes) p)))
   unfit-keeps (powered-up a) (p, q, f) = stays (powered-up a) (begin-stops _ _ _ _ _ _ _ (two-stop _ _ _ (at-limit (a .sizes) p)))
   unfit-keeps (advanced-by a) (p, e) = not-handed (s .handed) _ (x .none-handed) e
@@ -68,7 +67,6 @@ module _ (u : Setup) (s : State) (x : Unfit u s) where
 
   pub unfit-told : (e : Event) → Follows u s e
   unfolding Follows Keeps
-  unfit-told (first-saved a) = tt
   unfit-told (saved a) = tt
   unfit-told (powered-up a) = tt
   unfit-told (advanced-by a) = λ k. not-handed (s .handed) _ (x .none-handed) (k .1)

@@ -15,8 +15,8 @@ use Rattle.checkpoint.specs.Checkpoint.{Checkpoint, sealed}
 use Rattle.checkpoint.specs.Half.{read-as, Reads, open-length, secret-length}
 use Rattle.checkpoint.specs.Layout.{InRange}
 use Rattle.protocol.specs.Types.{Firmware}
-use Rattle.protocol.specs.Calls.{Sizes, FirstSave, PowersUp, Looks, Setup, Event, first-saved}
-use Rattle.protocol.specs.Operations.{key-wrong, nonce-wrong, newest-in, newest-half, staging-wrong, state-wrong, in-turn, first-checkpoint, first-save-stop, power-up, look-by, look, stretch-by, open-stretch}
+use Rattle.protocol.specs.Calls.{Sizes, from-tag, SaveArguments, saves, PowersUp, Looks, Setup, Event, saved}
+use Rattle.protocol.specs.Operations.{key-wrong, nonce-wrong, newest-in, newest-half, staging-wrong, state-wrong, in-turn, save-checkpoint, save-stop, power-up, look-by, look, stretch-by, open-stretch}
 use Rattle.protocol.specs.History.{fresh, run, Allowed}
 use Rattle.protocol.specs.Recovery.{Started, Fits}
 use Rattle.protocol.specs.Histories.{to-its-end}
@@ -94,10 +94,11 @@ BeyondAfter =
     (c : Checkpoint) → s .journal .entry ≡ some c → (older : Firmware) → Beyond older c
     → ((a : PowersUp) → a .sizes ≡ u .sizes → PowerUpRefused older (s .ring) (s .fram) a) × ((a : Looks) → a .sizes ≡ u .sizes → LookRefused older (s .ring) (s .fram) a))
 
--- a first save that does not stop, run to its end, records its parts, however long: such entries can be had (bench_values has the longest)
+-- a save with a starting tag that does not stop, run to its end, records its parts, however long: such entries can be had (bench_values has the longest)
 unfoldable pub FirstSaveRecorded : Type 0
 FirstSaveRecorded =
-    (u : Setup) (firmware : Firmware) (ring fram : List ℕ) (a : FirstSave) → a .arguments .sizes ≡ u .sizes → a .arguments .key ≡ u .key
-    → first-save-stop firmware ring fram a ≡ none
-    → (let events = to-its-end u (fresh firmware ring fram) (first-saved a) in
-    Allowed u (fresh firmware ring fram) events × (run u (fresh firmware ring fram) events .journal .entry ≡ some (first-checkpoint (firmware .form) a)))
+    (u : Setup) (firmware : Firmware) (ring fram : List ℕ) (a : SaveArguments) (tag : List ℕ) → a .sizes ≡ u .sizes → a .key ≡ u .key
+    → save-stop firmware ring fram (saves a (from-tag tag)) ≡ none
+    → (let events = to-its-end u (fresh firmware ring fram) (saved (saves a (from-tag tag))) in
+    Allowed u (fresh firmware ring fram) events
+    × (run u (fresh firmware ring fram) events .journal .entry ≡ some (save-checkpoint (firmware .form) (saves a (from-tag tag)))))

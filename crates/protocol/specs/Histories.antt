@@ -12,7 +12,7 @@ use Rattle.ring.specs.Ring.{At, AtPending, read-ring}
 use Rattle.checkpoint.specs.Checkpoint.{Form, Older, Longer, Checkpoint, empty-length}
 use Rattle.checkpoint.specs.Fram.{half-length}
 use Rattle.protocol.specs.Types.{Firmware, first-firmware, packet-firmware, larger-firmware, this-firmware, Session, EraseFirst, Stopped}
-use Rattle.protocol.specs.Calls.{sizes, SaveArguments, FirstSave, Saves, PowersUp, Setup, Event, first-saved, saved, powered-up, updated-to, lost-in-store}
+use Rattle.protocol.specs.Calls.{sizes, from-tag, from-session, SaveArguments, Saves, saves, PowersUp, Setup, Event, saved, powered-up, updated-to, lost-in-store}
 use Rattle.protocol.specs.Operations.{power-up}
 use Rattle.protocol.specs.Journal.{Draft}
 use Rattle.protocol.specs.History.{State, fresh, step, run, Succeeds, Allowed}
@@ -41,11 +41,11 @@ abbrev pub numbered-arguments : Setup → Firmware → ℕ → ℕ → SaveArgum
 numbered-arguments u firmware i packet =
     record { sizes = u .sizes; key = u .key; nonce = bytes nonce-length i; packet = packet; open-part = []; secret = []; staging = staging-room firmware }
 
-abbrev pub numbered-first : Setup → Firmware → ℕ → FirstSave
-numbered-first u firmware i = record { arguments = numbered-arguments u firmware i 0; starting-tag = replicate tag-length 0 }
+abbrev pub numbered-first : Setup → Firmware → ℕ → Saves
+numbered-first u firmware i = saves (numbered-arguments u firmware i 0) (from-tag (replicate tag-length 0))
 
 abbrev pub numbered-save : Setup → Firmware → ℕ → ℕ → Session → Saves
-numbered-save u firmware i packet z = record { arguments = numbered-arguments u firmware i packet; session = z }
+numbered-save u firmware i packet z = saves (numbered-arguments u firmware i packet) (from-session z)
 
 abbrev pub numbered-power-up : Setup → Firmware → ℕ → PowersUp
 numbered-power-up u firmware i = record { sizes = u .sizes; key = u .key; nonce = bytes nonce-length i; staging = staging-room firmware; state = state-room firmware }
@@ -71,7 +71,7 @@ power-ups-on u i (suc n) s =
 -- a first save, then n saves, then k power-ups
 unfoldable pub history : Setup → State → ℕ → ℕ → List Event
 history u s n k =
-    let first = to-its-end u s (first-saved (numbered-first u (s .firmware) 0)) in
+    let first = to-its-end u s (saved (numbered-first u (s .firmware) 0)) in
     let saves = saves-on u 1 n (run u s first) in
     first ++ (saves ++ power-ups-on u (n + 1) k (run u (run u s first) saves))
 
@@ -101,7 +101,7 @@ repeats-on u i (suc n) s =
 
 -- a first save, then k such repeats: in the longer form no save sets restarts to 0, since each brings packet number 0 again, and so k power-ups are counted
 unfoldable pub repeats : Setup → State → ℕ → List Event
-repeats u s k = let first = to-its-end u s (first-saved (numbered-first u (s .firmware) 0)) in first ++ repeats-on u 1 k (run u s first)
+repeats u s k = let first = to-its-end u s (saved (numbered-first u (s .firmware) 0)) in first ++ repeats-on u 1 k (run u s first)
 
 unfoldable pub StaleRepeats : Type 0
 StaleRepeats =

@@ -15,8 +15,8 @@ use Rattle.ring.specs.Ring.{page-put, record-put}
 use Rattle.checkpoint.specs.Fram.{half-length}
 use Rattle.checkpoint.specs.Half.{Reads}
 use Rattle.protocol.specs.Types.{Firmware, Phase, EraseFirst, Words, Record, EraseAfter, Done, Job, Session, Progress, GoingOn, Saved, Restored, Refused, Start, Begun, Stopped}
-use Rattle.protocol.specs.Calls.{Setup, Event, first-saved, saved, powered-up, advanced-by, PowerLoss, updated-to, lost-in-store}
-use Rattle.protocol.specs.Operations.{Begin, Moved, first-save, save, power-up, advance, job-record}
+use Rattle.protocol.specs.Calls.{From, from-tag, from-session, Setup, Event, saved, powered-up, advanced-by, PowerLoss, updated-to, lost-in-store}
+use Rattle.protocol.specs.Operations.{Begin, Moved, save, power-up, advance, job-record}
 use Rattle.protocol.specs.Journal.{entered, Journal, empty}
 
 -- a job that was handed out, with its start's staging buffer
@@ -53,7 +53,6 @@ is-stopped (Refused stop) = true
 
 -- the call stops
 unfoldable pub refused : State → Event → Bool
-refused s (first-saved a) = is-stop (first-save (s .firmware) (s .ring) (s .fram) a .answer)
 refused s (saved a) = is-stop (save (s .firmware) (s .ring) (s .fram) a .answer)
 refused s (powered-up a) = is-stop (power-up (s .firmware) (s .ring) (s .fram) a .answer)
 refused s (advanced-by a) = is-stopped (advance (s .firmware) (s .ring) (s .fram) a .progress)
@@ -165,7 +164,6 @@ broken u s (some h) left j = record {
 }
 
 unfoldable pub left-by : Setup → State → Event → Journal → State
-left-by u s (first-saved a) j = let b = first-save (s .firmware) (s .ring) (s .fram) a in begun s (b .answer) b (a .arguments .nonce) j
 left-by u s (saved a) j = let b = save (s .firmware) (s .ring) (s .fram) a in begun s (b .answer) b (a .arguments .nonce) j
 left-by u s (powered-up a) j = let b = power-up (s .firmware) (s .ring) (s .fram) a in begun s (b .answer) b (a .nonce) j
 left-by u s (advanced-by a) j = let m = advance (s .firmware) (s .ring) (s .fram) a in moved s (m .progress) m (a .staging) j
@@ -213,13 +211,17 @@ pub record Succeeds (firmware next : Firmware) : Type 0 where
   pub heads : Reads (next .form) (firmware .form)
   pub parts : firmware .longest-part ≤ next .longest-part
 
+-- a session is one that the list handed out; a starting tag may be any
+unfoldable pub HandedOut : From → List Session → Type 0
+HandedOut (from-tag tag) sessions = Unit {0}
+HandedOut (from-session s) sessions = List·Memᴰ s sessions
+
 -- document 01's rules for a call that does not stop: the unit's sizes and key, a nonce that no start which began had, a session that the list handed out,
 -- the job handed out last with its start's staging; and for an update and a power loss in a store
 unfoldable pub Keeps : Setup → State → Event → Type 0
-Keeps u s (first-saved a) = (a .arguments .sizes ≡ u .sizes) × (a .arguments .key ≡ u .key) × (List·Memᴰ (a .arguments .nonce) (s .nonces) → ⊥)
 Keeps u s (saved a) =
     (a .arguments .sizes ≡ u .sizes) × (a .arguments .key ≡ u .key) × (List·Memᴰ (a .arguments .nonce) (s .nonces) → ⊥)
-    × (List·Memᴰ (a .session) (s .sessions))
+    × HandedOut (a .from) (s .sessions)
 Keeps u s (powered-up a) = (a .sizes ≡ u .sizes) × (a .key ≡ u .key) × (List·Memᴰ (a .nonce) (s .nonces) → ⊥)
 Keeps u s (advanced-by a) = (a .sizes ≡ u .sizes) × (s .handed ≡ some (record { job = a .job; staging = a .staging }))
 Keeps u s PowerLoss = Unit {0}

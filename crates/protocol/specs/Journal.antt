@@ -9,7 +9,7 @@ use lib.Dec.{eqb, ltb}
 use Rattle.octets.specs.Octets.{blank}
 use Rattle.checkpoint.specs.Checkpoint.{Form, Older, Longer, Checkpoint, sealed, own-tag}
 use Rattle.protocol.specs.Types.{Origin, Save, PowerUp}
-use Rattle.protocol.specs.Calls.{SaveArguments, FirstSave, Setup, Event, first-saved, saved, powered-up, advanced-by, PowerLoss, updated-to, lost-in-store}
+use Rattle.protocol.specs.Calls.{From, from-tag, from-session, SaveArguments, Setup, Event, saved, powered-up, advanced-by, PowerLoss, updated-to, lost-in-store}
 
 -- a store to come
 pub data Store : Type 0 where
@@ -41,23 +41,24 @@ unfoldable pub number-in : Form → ℕ → ℕ
 number-in Older packet = 0
 number-in Longer packet = packet
 
-unfoldable pub first-draft : Form → FirstSave → Checkpoint
-first-draft form a = record {
+-- a save's with a starting tag
+unfoldable pub first-draft : Form → SaveArguments → List ℕ → Checkpoint
+first-draft form a starting-tag = record {
   form = form;
-  packet = number-in form (a .arguments .packet);
-  open-part = a .arguments .open-part;
-  secret = a .arguments .secret;
+  packet = number-in form (a .packet);
+  open-part = a .open-part;
+  secret = a .secret;
   restarts = 0;
-  previous = a .starting-tag;
-  nonce = a .arguments .nonce;
+  previous = starting-tag;
+  nonce = a .nonce;
 }
 
--- a save sets restarts to 0 if it brings a packet number above the entry's; every save of the older form does
+-- a save with a session sets restarts to 0 if it brings a packet number above the entry's; every save of the older form does
 unfoldable pub starts-over : Form → ℕ → Checkpoint → Bool
 starts-over Older packet c = true
 starts-over Longer packet c = ltb (c .packet) packet
 
--- a save's, with the entry c: the larger packet number is stored
+-- and its draft, with the entry c: the larger packet number is stored
 unfoldable pub save-draft : Form → List ℕ → SaveArguments → Checkpoint → Checkpoint
 save-draft form key a c = record {
   form = form;
@@ -159,17 +160,20 @@ unfoldable pub resumed-entry : Form → List ℕ → List ℕ → Option Checkpo
 resumed-entry form key nonce none j slots = j
 resumed-entry form key nonce (some c) j slots = drafted key slots PowerUp (power-up-draft form key nonce c) (j .power-ups + 1) j
 
--- a save's draft carries the entry's tag, restarts and packet number, whatever session it was given; its power-ups are 0 or carry over, as its restarts
+-- the draft carries the entry's tag, restarts and packet number, whatever session the save was given; its power-ups are 0 or carry over, as its restarts
 unfoldable pub saved-entry : Form → List ℕ → SaveArguments → Option Checkpoint → Journal → ℕ → Journal
 saved-entry form key a none j slots = j
 saved-entry form key a (some c) j slots =
     drafted key slots Save (save-draft form key a c) (cond (starts-over form (a .packet) c) 0 (j .power-ups)) j
 
+unfoldable pub saved-from : Form → List ℕ → SaveArguments → From → Journal → ℕ → Journal
+saved-from form key a (from-tag tag) j slots = drafted key slots Save (first-draft form a tag) 0 j
+saved-from form key a (from-session s) j slots = saved-entry form key a (j .entry) j slots
+
 -- the journal after an event: it sees the call's arguments, the form of the heads which it writes and whether it stopped, and what a power loss left;
 -- never the memories
 unfoldable pub entered : Setup → Form → Journal → Event → Bool → Journal
-entered u form j (first-saved a) stopped = cond stopped j (drafted (u .key) (u .sizes .slots) Save (first-draft form a) 0 j)
-entered u form j (saved a) stopped = cond stopped j (saved-entry form (u .key) (a .arguments) (j .entry) j (u .sizes .slots))
+entered u form j (saved a) stopped = cond stopped j (saved-from form (u .key) (a .arguments) (a .from) j (u .sizes .slots))
 entered u form j (powered-up a) stopped = cond stopped j (resumed-entry form (u .key) (a .nonce) (j .entry) j (u .sizes .slots))
 entered u form j (advanced-by a) stopped = cond stopped j (advanced j (j .draft))
 entered u form j PowerLoss stopped = dropped j

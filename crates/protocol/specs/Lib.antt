@@ -6,6 +6,7 @@ pub mod Journal
 pub mod History
 pub mod Recovery
 pub mod Histories
+pub mod Entries
 pub mod Older
 pub mod Beyond
 pub mod Orders

@@ -13,8 +13,9 @@ use Rattle.checkpoint.specs.Fram.{fram-wrong, half-length}
 use Rattle.checkpoint.specs.Checkpoint.{Older, Checkpoint, head-words, part-wrong, own-tag, sealed-length}
 use Rattle.checkpoint.specs.Half.{stored-restarts, good-head, good-tag}
 use Rattle.protocol.specs.Types.{first-firmware}
-use Rattle.protocol.specs.Calls.{SaveArguments, FirstSave, Saves, PowersUp, Looks, Advances}
-use Rattle.protocol.specs.Operations.{key-wrong, nonce-wrong, tag-wrong, newest-in, newest-half, staging-wrong, stale, phase-wrong, first-checkpoint, save-checkpoint, resumed, first-save-stop, save-stop, power-up-stop, look-stop, advance-stop}
+use Rattle.protocol.specs.Calls.{SaveArguments, PowersUp, Looks, Advances}
+use Rattle.protocol.specs.Operations.{key-wrong, nonce-wrong, tag-wrong, newest-in, newest-half, staging-wrong, stale, phase-wrong, resumed, power-up-stop, look-stop, advance-stop}
+use Rattle.protocol.specs.Entries.{FirstSave, NextSave, first-checkpoint, next-checkpoint, first-save-stop, next-save-stop}
 
 -- stop 4 of both parts: the checkpoint is 44 bytes and both parts
 abbrev pub wrong-parts : List ℕ → SaveArguments → Bool
@@ -28,7 +29,7 @@ pub record OlderStops (ring fram : List ℕ) : Type 0 where
       (3, key-wrong (length (a .arguments .key)) || nonce-wrong (length (a .arguments .nonce)) || tag-wrong (length (a .starting-tag))) ∷
       (4, wrong-parts fram (a .arguments)) ∷
       (5, not (blank ring)) ∷ [])
-  pub save : (a : Saves) → let n = newest-in ring (a .arguments .sizes) in save-stop first-firmware ring fram a ≡ first-of (
+  pub save : (a : NextSave) → let n = newest-in ring (a .arguments .sizes) in next-save-stop first-firmware ring fram a ≡ first-of (
       (1, ring-wrong (a .arguments .sizes .pages) (a .arguments .sizes .slots) ring) ∷
       (2, fram-wrong 131072 fram) ∷
       (3, key-wrong (length (a .arguments .key)) || nonce-wrong (length (a .arguments .nonce))) ∷
@@ -75,7 +76,7 @@ pub record OlderCheckpoints : Type 0 where
   pub head : (packet open-words secret-words restarts : ℕ) → head-words Older packet open-words secret-words restarts ≡ (1, open-words) ∷ (2, secret-words) ∷ (3, restarts) ∷ []
   pub long : (m n : ℕ) → sealed-length Older m n ≡ 44 + m + n
   pub first-save : (a : FirstSave) → first-checkpoint Older a ≡ older (a .arguments .open-part) (a .arguments .secret) 0 (a .starting-tag) (a .arguments .nonce)
-  pub save : (a : Saves) → save-checkpoint Older a ≡ older (a .arguments .open-part) (a .arguments .secret) 0 (a .session .tag) (a .arguments .nonce)
+  pub save : (a : NextSave) → next-checkpoint Older a ≡ older (a .arguments .open-part) (a .arguments .secret) 0 (a .session .tag) (a .arguments .nonce)
   pub power-up : (key nonce : List ℕ) (c : Checkpoint) → c .packet ≡ 0 → resumed Older key nonce c ≡ older (c .open-part) (c .secret) (c .restarts + 1) (own-tag key c) nonce
 
 unfoldable pub OlderIs : Type 0

@@ -1,8 +1,8 @@
--- What each operation answers and leaves in the lent buffers (document 01, "What the unit calls" and "Stops, by the place of checking", and document 02, A.2, A.5 and A.6).
+-- What each operation answers and leaves in the lent buffers (document 01, "What the unit calls" and "Stops, by the place of checking", and document 02, A.2, A.5, A.6 and A.7).
 -- A stop is the number of the first condition that holds, in a list with a line for each row of the papers that names the operation: rising, but
 -- 18 comes right after 4, and a power-up's second 4 last (A.2), from A.6 on right after 10, which then goes behind 13.
--- `firmware` is the unit's, and `form` that of the heads which it writes: at `first-firmware` these are document 01's operations, and the code's
--- promises are at `this-firmware`.
+-- `firmware` is the unit's, and `form` that of the heads which it writes: at `first-firmware` these are document 01's operations (Older.antt), and the
+-- code's promises are at `this-firmware`. Save is A.7's one; that it is both of the entries before it is in Entries.antt.
 use Prim.Native.Nat.{ℕ, _+_, _-_, _*_, _%_}
 use mathlib.Core.Bool.{Bool, true, false, not, cond, _&&_, _||_}
 use mathlib.Core.Option.{Option, none, some}
@@ -18,13 +18,18 @@ use Rattle.checkpoint.specs.Fram.{fram-wrong, half-length, half-at}
 use Rattle.checkpoint.specs.Checkpoint.{Form, Older, Longer, Checkpoint, head-length, empty-length, sealed-length, part-wrong, own-tag, sealed}
 use Rattle.checkpoint.specs.Half.{read-as, open-length, secret-length, stored-restarts, good-head, good-tag, stored}
 use Rattle.protocol.specs.Types.{Order, NonceFirst, HalfFirst, Firmware, Phase, EraseFirst, Words, Record, EraseAfter, Done, Origin, Save, PowerUp, Job, Session, Progress, GoingOn, Saved, Restored, Refused, Start, Begun, Stopped, Looked, Restarts, Unseen, Stretch}
-use Rattle.protocol.specs.Calls.{Sizes, FirstSave, Saves, PowersUp, Looks, Advances}
+use Rattle.protocol.specs.Calls.{Sizes, From, from-tag, from-session, SaveArguments, Saves, PowersUp, Looks, Advances}
 
 -- what reading a ring of these sizes finds
 abbrev pub newest-in : List ℕ → Sizes → Newest
 newest-in ring z = read-ring ring (z .pages) (z .slots)
 
 -- ---- conditions of the papers' tables
+
+-- stop 3, of a starting tag
+unfoldable pub from-wrong : From → Bool
+from-wrong (from-tag tag) = tag-wrong (length tag)
+from-wrong (from-session s) = false
 
 -- stop 4, of a staging buffer and of a state buffer
 unfoldable pub staging-wrong : List ℕ → List ℕ → Bool
@@ -60,7 +65,7 @@ session-wrong Longer s = ltb restart-limit (s .restarts) || ltb packet-limit (s 
 
 -- ---- starts
 
--- what a start answers and leaves; `secret-length` is the restored secret part's length, 0 for the saves
+-- what a start answers and leaves; `secret-length` is the restored secret part's length, 0 for a save
 pub record Begin : Type 0 where
   pub answer : Start
   pub job : Job
@@ -115,17 +120,6 @@ unfoldable pub written-number : Form → ℕ → ℕ
 written-number Older packet = 0
 written-number Longer packet = packet
 
-unfoldable pub first-checkpoint : Form → FirstSave → Checkpoint
-first-checkpoint form a = record {
-  form = form;
-  packet = written-number form (a .arguments .packet);
-  open-part = a .arguments .open-part;
-  secret = a .arguments .secret;
-  restarts = 0;
-  previous = a .starting-tag;
-  nonce = a .arguments .nonce;
-}
-
 -- a save that has heard a packet number above the session's sets restarts to 0, else the session's carry over; every save of the older form sets them to 0
 unfoldable pub save-restarts : Form → (heard known restarts : ℕ) → ℕ
 save-restarts Older heard known restarts = 0
@@ -134,15 +128,27 @@ save-restarts Longer heard known restarts = cond (ltb known heard) 0 restarts
 unfoldable pub larger : ℕ → ℕ → ℕ
 larger a b = cond (ltb a b) b a
 
--- a save's: the larger packet number
+-- with a starting tag the number heard, and no restarts; with a session the larger number, and its restarts as said
+unfoldable pub number-from : From → ℕ → ℕ
+number-from (from-tag tag) heard = heard
+number-from (from-session s) heard = larger (s .packet) heard
+
+unfoldable pub restarts-from : Form → From → ℕ → ℕ
+restarts-from form (from-tag tag) heard = 0
+restarts-from form (from-session s) heard = save-restarts form heard (s .packet) (s .restarts)
+
+unfoldable pub previous-tag : From → List ℕ
+previous-tag (from-tag tag) = tag
+previous-tag (from-session s) = s .tag
+
 unfoldable pub save-checkpoint : Form → Saves → Checkpoint
 save-checkpoint form a = record {
   form = form;
-  packet = written-number form (larger (a .session .packet) (a .arguments .packet));
+  packet = written-number form (number-from (a .from) (a .arguments .packet));
   open-part = a .arguments .open-part;
   secret = a .arguments .secret;
-  restarts = save-restarts form (a .arguments .packet) (a .session .packet) (a .session .restarts);
-  previous = a .session .tag;
+  restarts = restarts-from form (a .from) (a .arguments .packet);
+  previous = previous-tag (a .from);
   nonce = a .arguments .nonce;
 }
 
@@ -168,49 +174,55 @@ first-phase (AtPending p q) = EraseFirst q
 unfoldable pub newest-half : (ring fram : List ℕ) → ℕ → Newest → List ℕ
 newest-half ring fram slots n = half-at fram (half-named (newest-record ring slots n))
 
+-- where a start's checkpoint goes
+pub record Target : Type 0 where
+  pub half : ℕ
+  pub page : ℕ
+  pub slot : ℕ
+
+-- the half that the newest record does not name, and the place on the ring behind that record
+abbrev pub next-target : List ℕ → Sizes → Target
+next-target ring z =
+    let n = newest-in ring z in
+    record { half = 1 - half-named (newest-record ring (z .slots) n); page = target-page (z .pages) (z .slots) n; slot = target-slot (z .slots) n }
+
+-- with a starting tag half A, page 0, slot 0
+unfoldable pub save-target : List ℕ → Sizes → From → Target
+save-target ring z (from-tag tag) = record { half = 0; page = 0; slot = 0 }
+save-target ring z (from-session s) = next-target ring z
+
 -- the stop of a used nonce and those about the half, in a power-up's order
 abbrev pub in-turn : Order → ℕ × Bool → List (ℕ × Bool) → List (ℕ × Bool)
 in-turn NonceFirst nonce half = nonce ∷ half
 in-turn HalfFirst nonce half = half ++ nonce ∷ []
 
 module _ (firmware : Firmware) (ring fram : List ℕ) where
-  unfoldable pub first-save-stop : FirstSave → Option ℕ
-  first-save-stop a = first-of (
-      (1, ring-wrong (a .arguments .sizes .pages) (a .arguments .sizes .slots) ring) ∷
-      (2, fram-wrong (firmware .largest-fram) fram) ∷
-      (3, key-wrong (length (a .arguments .key)) || nonce-wrong (length (a .arguments .nonce)) || tag-wrong (length (a .starting-tag))) ∷
-      (4, parts-wrong firmware (a .arguments .open-part) (a .arguments .secret) fram || staging-wrong (a .arguments .staging) fram) ∷
-      (18, packet-wrong (firmware .form) (a .arguments .packet)) ∷
-      (5, not (blank ring)) ∷ [])
-
-  unfoldable pub first-save : FirstSave → Begin
-  first-save a =
-      let c = first-checkpoint (firmware .form) a in
-      begin (first-save-stop a) (a .arguments .key) c (job-of (a .arguments .key) c (Words 0) Save 0 0 0) (a .arguments .staging) [] []
-
-  unfoldable pub save-stop : Saves → Option ℕ
-  save-stop a =
-      let n = newest-in ring (a .arguments .sizes) in
-      first-of (
-      (1, ring-wrong (a .arguments .sizes .pages) (a .arguments .sizes .slots) ring) ∷
-      (2, fram-wrong (firmware .largest-fram) fram) ∷
-      (3, key-wrong (length (a .arguments .key)) || nonce-wrong (length (a .arguments .nonce))) ∷
-      (4, parts-wrong firmware (a .arguments .open-part) (a .arguments .secret) fram || staging-wrong (a .arguments .staging) fram) ∷
-      (18, packet-wrong (firmware .form) (a .arguments .packet)) ∷
+  -- with a starting tag a ring that is not blank is refused; with a session one that is blank or unreadable, a session that is not the newest
+  -- record's, a pending page and a used nonce
+  unfoldable pub ring-lines : SaveArguments → From → List (ℕ × Bool)
+  ring-lines a (from-tag tag) = (5, not (blank ring)) ∷ []
+  ring-lines a (from-session s) =
+      let n = newest-in ring (a .sizes) in
       (6, is-blank n) ∷
       (7, is-unreadable n) ∷
-      (8, stale ring (a .arguments .sizes .slots) n (a .session) || session-wrong (firmware .form) (a .session)) ∷
+      (8, stale ring (a .sizes .slots) n s || session-wrong (firmware .form) s) ∷
       (9, is-pending n) ∷
-      (10, nonce-used ring (a .arguments .sizes .slots) n (a .arguments .nonce)) ∷ [])
+      (10, nonce-used ring (a .sizes .slots) n (a .nonce)) ∷ []
+
+  unfoldable pub save-stop : Saves → Option ℕ
+  save-stop a = first-of (
+      (1, ring-wrong (a .arguments .sizes .pages) (a .arguments .sizes .slots) ring) ∷
+      (2, fram-wrong (firmware .largest-fram) fram) ∷
+      (3, key-wrong (length (a .arguments .key)) || nonce-wrong (length (a .arguments .nonce)) || from-wrong (a .from)) ∷
+      (4, parts-wrong firmware (a .arguments .open-part) (a .arguments .secret) fram || staging-wrong (a .arguments .staging) fram) ∷
+      (18, packet-wrong (firmware .form) (a .arguments .packet)) ∷
+      ring-lines (a .arguments) (a .from))
 
   unfoldable pub save : Saves → Begin
   save a =
-      let n = newest-in ring (a .arguments .sizes) in
       let c = save-checkpoint (firmware .form) a in
-      begin (save-stop a) (a .arguments .key) c
-      (job-of (a .arguments .key) c (Words 0) Save (1 - half-named (newest-record ring (a .arguments .sizes .slots) n))
-      (target-page (a .arguments .sizes .pages) (a .arguments .sizes .slots) n) (target-slot (a .arguments .sizes .slots) n))
-      (a .arguments .staging) [] []
+      let t = save-target ring (a .arguments .sizes) (a .from) in
+      begin (save-stop a) (a .arguments .key) c (job-of (a .arguments .key) c (Words 0) Save (t .half) (t .page) (t .slot)) (a .arguments .staging) [] []
 
   -- 11, 12 and 13: what is wrong with the half that the newest record names
   unfoldable pub half-lines : PowersUp → List (ℕ × Bool)
@@ -246,10 +258,8 @@ module _ (firmware : Firmware) (ring fram : List ℕ) where
       let n = newest-in ring (a .sizes) in
       let old = newest-checkpoint a in
       let new = resumed (firmware .form) (a .key) (a .nonce) old in
-      begin (power-up-stop a) (a .key) new
-      (job-of (a .key) new (first-phase n) PowerUp (1 - half-named (newest-record ring (a .sizes .slots) n))
-      (target-page (a .sizes .pages) (a .sizes .slots) n) (target-slot (a .sizes .slots) n))
-      (a .staging) (a .state) (old .secret)
+      let t = next-target ring (a .sizes) in
+      begin (power-up-stop a) (a .key) new (job-of (a .key) new (first-phase n) PowerUp (t .half) (t .page) (t .slot)) (a .staging) (a .state) (old .secret)
 
   -- ---- look and its companion
 

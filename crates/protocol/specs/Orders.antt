@@ -14,7 +14,7 @@ use Rattle.ring.specs.Ring.{nonce-used}
 use Rattle.checkpoint.specs.Checkpoint.{Checkpoint}
 use Rattle.checkpoint.specs.Fram.{half-length}
 use Rattle.protocol.specs.Types.{Order, NonceFirst, HalfFirst, Firmware, Begun, Stopped}
-use Rattle.protocol.specs.Calls.{FirstSave, Saves, PowersUp, Looks, Advances, Setup, Event}
+use Rattle.protocol.specs.Calls.{Saves, PowersUp, Looks, Advances, Setup, Event}
 use Rattle.protocol.specs.Operations as operations
 use Rattle.protocol.specs.Operations.{newest-in, half-lines, power-up-stop, power-up}
 use Rattle.protocol.specs.History.{State, fresh, run, Allowed}
@@ -43,7 +43,6 @@ pub record Compared (firmware : Firmware) (ring fram : List ℕ) (a : PowersUp) 
 
 -- save keeps its order, and no other operation asks for it either
 pub record OthersSame (firmware : Firmware) (ring fram : List ℕ) (order other : Order) : Type 0 where
-  pub first-save : (a : FirstSave) → operations.first-save (ordered order firmware) ring fram a ≡ operations.first-save (ordered other firmware) ring fram a
   pub save : (a : Saves) → operations.save (ordered order firmware) ring fram a ≡ operations.save (ordered other firmware) ring fram a
   pub look : (a : Looks) → operations.look (ordered order firmware) ring fram a ≡ operations.look (ordered other firmware) ring fram a
   pub stretch : (a : Looks) → operations.open-stretch (ordered order firmware) ring fram a ≡ operations.open-stretch (ordered other firmware) ring fram a

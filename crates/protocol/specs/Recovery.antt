@@ -14,8 +14,8 @@ use Rattle.ring.specs.Ring.{At, ring-wrong, slot-at, half-named, read-ring}
 use Rattle.checkpoint.specs.Fram.{fram-wrong, half-length, half-at}
 use Rattle.checkpoint.specs.Checkpoint.{Checkpoint, own-tag, sealed}
 use Rattle.protocol.specs.Types.{Firmware, Restarts, Unseen, Session, Origin, Save, PowerUp, Progress, GoingOn, Restored, Saved, Refused, Start, Begun, Stopped}
-use Rattle.protocol.specs.Calls.{PowersUp, Looks, Advances, Setup, Event, first-saved, saved, powered-up, advanced-by, PowerLoss, updated-to, lost-in-store}
-use Rattle.protocol.specs.Operations.{Begin, Moved, no-job, first-save-stop, first-save, save-stop, save, power-up-stop, power-up, look, open-stretch, stretch-of, advance-stop, advance, no-session, session-of}
+use Rattle.protocol.specs.Calls.{PowersUp, Looks, Advances, Setup, Event, saved, powered-up, advanced-by, PowerLoss, updated-to, lost-in-store}
+use Rattle.protocol.specs.Operations.{Begin, Moved, no-job, save-stop, save, power-up-stop, power-up, look, open-stretch, stretch-of, advance-stop, advance, no-session, session-of}
 use Rattle.protocol.specs.Journal.{Draft, to-come, power-up-draft, stores-of}
 use Rattle.protocol.specs.History.{State, Handed, broken-ring, broken-fram, bytes-of, fresh, run, step, is-stop, is-stopped, refused, Keeps, Allowed}
 
@@ -53,7 +53,6 @@ Advanced s a stop m =
 
 -- the call answers the first stop of its list that applies, and what a stop leaves is as it was
 unfoldable pub Exact : State → Event → Type 0
-Exact s (first-saved a) = Started (first-save-stop (s .firmware) (s .ring) (s .fram) a) (first-save (s .firmware) (s .ring) (s .fram) a) (a .arguments .staging) []
 Exact s (saved a) = Started (save-stop (s .firmware) (s .ring) (s .fram) a) (save (s .firmware) (s .ring) (s .fram) a) (a .arguments .staging) []
 Exact s (powered-up a) = Started (power-up-stop (s .firmware) (s .ring) (s .fram) a) (power-up (s .firmware) (s .ring) (s .fram) a) (a .staging) (a .state)
 Exact s (advanced-by a) = Advanced s a (advance-stop (s .firmware) (s .ring) (s .fram) a) (advance (s .firmware) (s .ring) (s .fram) a)
@@ -82,7 +81,6 @@ Told u s a =
     × (store-left (s .journal .draft) ≡ true → advance (s .firmware) (s .ring) (s .fram) a .progress ≡ said (step u s (advanced-by a) .journal .draft))
 
 unfoldable pub Follows : Setup → State → Event → Type 0
-Follows u s (first-saved a) = Unit {0}
 Follows u s (saved a) = Unit {0}
 Follows u s (powered-up a) = Unit {0}
 Follows u s (advanced-by a) = Keeps u s (advanced-by a) → Told u s a
@@ -112,7 +110,6 @@ pub record Last (u : Setup) (s : State) (a : PowersUp) : Type 0 where
   pub state : s .firmware .longest-part ≤ length (a .state)
 
 unfoldable pub is-advance : Event → Bool
-is-advance (first-saved a) = false
 is-advance (saved a) = false
 is-advance (powered-up a) = false
 is-advance (advanced-by a) = true
@@ -127,7 +124,6 @@ Uninterrupted u s (e ∷ more) = (T (refused s e) ⊎ (T (is-advance e) × Keeps
 
 -- what an advance answers, before what later ones answer
 unfoldable pub answered : State → Event → List Progress → List Progress
-answered s (first-saved a) later = later
 answered s (saved a) later = later
 answered s (powered-up a) later = later
 answered s (advanced-by a) later = advance (s .firmware) (s .ring) (s .fram) a .progress ∷ later

@@ -40,7 +40,7 @@ pub data Phase : Type 0 where
   EraseAfter : ℕ → Phase
   Done : Phase
 
--- which start a job came from; a first save is a save
+-- which start a job came from
 pub data Origin : Type 0 where
   Save : Origin
   PowerUp : Origin

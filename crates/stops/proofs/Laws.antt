@@ -58,6 +58,24 @@ pub one-more : (xs : List (ℕ × Bool)) (n : ℕ) (W w : Bool) (o o′ : Option
 unfolding tried
 one-more xs n W w o o′ e x f = f ∙ (λ i. then-stop (e i) n (x i)) ∙ sym (first-append xs ((n, W) ∷ []) refl)
 
+-- a condition that never holds may be left out
+pub skipped : (xs ys : List (ℕ × Bool)) (n : ℕ) → first-of (xs ++ (n, false) ∷ ys) ≡ first-of (xs ++ ys)
+unfolding first-of
+skipped [] ys n = refl
+skipped (x ∷ xs) ys n = ap (λ (o : Option ℕ). cond (x .1) (some (x .0)) o) (skipped xs ys n)
+
+pub same-line : (xs ys : List (ℕ × Bool)) (n : ℕ) (a b : Bool) → a ≡ b → first-of (xs ++ (n, a) ∷ ys) ≡ first-of (xs ++ (n, b) ∷ ys)
+same-line xs ys n a b e = ap (λ (t : Bool). first-of (xs ++ (n, t) ∷ ys)) e
+
+-- a last condition that holds only where an earlier one does
+pub last-skipped : (xs : List (ℕ × Bool)) (n : ℕ) (b : Bool) → (first-of xs ≡ none → b ≡ false) → first-of (xs ++ (n, b) ∷ []) ≡ first-of xs
+unfolding tried
+last-skipped xs n b f = first-append xs ((n, b) ∷ []) refl ∙ go (first-of xs) refl
+  where
+    go : (o : Option ℕ) → first-of xs ≡ o → tried o ((n, b) ∷ []) ≡ o
+    go (some x) e = refl
+    go none e = ap (λ (t : Bool). cond t (some n) none) (f e)
+
 -- none of the conditions holds
 abbrev pub Passes : List (ℕ × Bool) → Type 0
 Passes [] = Unit {0}
@@ -77,6 +95,10 @@ passes (c ∷ cs) e =
 pub neither : (a b : Bool) → a || b ≡ false → (a ≡ false) × (b ≡ false)
 neither true b e = let z : _≡_ {A = ℕ} 0 1 = cc in absurd (omega arith)
 neither false b e = (refl, e)
+
+pub or-false : (a : Bool) → a || false ≡ a
+or-false true = refl
+or-false false = refl
 
 -- the stops in the order of their numbers, from 1 on; 19 is none's, and the first stands in its place: no two have one number
 stops : List Stop

@@ -18,11 +18,11 @@ use Rattle.checkpoint.proofs.FramLaws.{an-image}
 use Rattle.checkpoint.specs.Checkpoint.{Checkpoint}
 use Rattle.checkpoint.specs.Fram.{fram-wrong, half-length}
 use Rattle.protocol.specs.Types.{Job, Session, Progress, GoingOn, Saved, Restored, Refused, Start, Begun, Stopped, Firmware, this-firmware}
-use Rattle.protocol.specs.Calls.{Event, first-saved, saved, powered-up}
-use Rattle.protocol.specs.Operations.{Begin, begin, job-of, first-phase, Moved, no-session, first-save, save, power-up}
+use Rattle.protocol.specs.Calls.{From, from-session, Event, saved, powered-up}
+use Rattle.protocol.specs.Operations.{Begin, begin, job-of, first-phase, Moved, no-session, save, power-up}
 use Rattle.protocol.specs.Journal.{Journal}
 use Rattle.protocol.specs.History as history
-use Rattle.protocol.specs.History.{State, fresh, begun, left-by, is-stop, is-stopped, refused, run, Keeps, Allowed}
+use Rattle.protocol.specs.History.{State, fresh, begun, left-by, is-stop, is-stopped, refused, run, HandedOut, Keeps, Allowed}
 use Rattle.protocol.specs.Recovery.{is-going, Fits, Last, Recovery}
 use Rattle.protocol.proofs.Refused.{step-refused}
 use Rattle.protocol.proofs.FreeResults.{no-session-stops}
@@ -31,7 +31,7 @@ use Rattle.protocol.proofs.Invariant.{Holds}
 use Rattle.protocol.proofs.Lists.{hold-run, hold-fresh}
 use Rattle.protocol.proofs.Runs.{run-append, allowed-append}
 use Rattle.protocol.proofs.Recovery.{recovery}
-use Rattle.trace.specs.Trace.{kind, value, is-cut, bench-pages, bench-slots, ring-length, fram-length, bench-half, bench-staging, nonce-of, first-saving, saving, powering-up, save-with, start, start-progress, started, stores-until, Bench, operation, session-from, session-after, operated, cut-set, step, after, line-after, printed, lines, blank-bench}
+use Rattle.trace.specs.Trace.{kind, value, is-cut, bench-pages, bench-slots, ring-length, fram-length, bench-half, bench-staging, nonce-of, arguments, saving, zero-tag, powering-up, save-with, start, start-progress, started, stores-until, Bench, operation, session-from, session-after, operated, cut-set, step, after, line-after, printed, lines, blank-bench}
 use Rattle.trace.specs.Rule.{bench-setup, given, call, advances-while, loss-if, operation-events, events-of, call-answer, call-line, list-lines, nonces, AllDiffer, blank-state, trace-events, state-after, TraceRecovery}
 use Rattle.ring_line.specs.Text.{ring-text}
 use Rattle.trace.proofs.Stores.{left, left-of, stored-still}
@@ -84,41 +84,38 @@ stopped-not-begun : (x : ℕ) → Stopped x ≡ Begun → ⊥
 stopped-not-begun x e = let z : _≡_ {A = ℕ} 0 1 = cc in omega arith
 
 module _ (s : State) (ring fram : List ℕ) (er : s .ring ≡ ring) (ef : s .fram ≡ fram) (eo : s .firmware ≡ this-firmware) (v : ℕ) (small : v < 2 ^ 28) where
-  first-call : CallOf s (first-saved (first-saving v bench-staging)) (first-save this-firmware ring fram (first-saving v bench-staging)) (nonce-of v)
+  -- a save that may be given what it follows
+  follows : (from : From) → HandedOut from (s .sessions) → CallOf s (saved (saving v bench-staging from)) (save this-firmware ring fram (saving v bench-staging from)) (nonce-of v)
   unfolding refused history.step left-by Keeps call-answer
-  first-call =
-      let same : first-save (s .firmware) (s .ring) (s .fram) (first-saving v bench-staging) ≡ first-save this-firmware ring fram (first-saving v bench-staging) =
-      λ i. first-save (eo i) (er i) (ef i) (first-saving v bench-staging) in
+  follows from m =
+      let same : save (s .firmware) (s .ring) (s .fram) (saving v bench-staging from) ≡ save this-firmware ring fram (saving v bench-staging from) =
+      λ i. save (eo i) (er i) (ef i) (saving v bench-staging from) in
       record {
         stops = ap (λ (y : Begin). is-stop (y .answer)) same;
         answers = ap (λ (y : Begin). y .answer) same;
         opens = λ e. opened s _ _ _ _ _ (ap (λ (y : Begin). y .answer) same ∙ e) same;
-        keeps = λ n. inr (refl, refl, n);
+        keeps = λ n. inr (refl, refl, n, m);
       }
 
-  save-call : Holds bench-setup s → length (s .fram) ≡ fram-length → (o : Option Session) → ((z : Session) → o ≡ some z → List·Memᴰ z (s .sessions))
-      → CallOf s (saved (saving v bench-staging (given o))) (save-with ring fram o v bench-staging) (nonce-of v)
-  unfolding refused history.step left-by Keeps call-answer save-with is-stop
-  save-call inv long none m =
-      let x = no-session-stops (s .firmware) (s .ring) (s .fram) (saving v bench-staging no-session) refl in
-      let r : is-stop (save (s .firmware) (s .ring) (s .fram) (saving v bench-staging no-session) .answer) ≡ true = ap is-stop (x .1) in
-      let answer : save (s .firmware) (s .ring) (s .fram) (saving v bench-staging no-session) .answer ≡ Stopped (cond (blank ring) 6 8) =
-      (λ i. save (eo i) (s .ring) (s .fram) (saving v bench-staging no-session) .answer) ∙ without-session s inv long v small ∙ ap (λ (y : List ℕ). Stopped (cond (blank y) 6 8)) er in
+  first-call : CallOf s (saved (saving v bench-staging zero-tag)) (save this-firmware ring fram (saving v bench-staging zero-tag)) (nonce-of v)
+  unfolding HandedOut
+  first-call = follows zero-tag tt
+
+  next-call : Holds bench-setup s → length (s .fram) ≡ fram-length → (o : Option Session) → ((z : Session) → o ≡ some z → List·Memᴰ z (s .sessions))
+      → CallOf s (saved (saving v bench-staging (from-session (given o)))) (save-with ring fram o v bench-staging) (nonce-of v)
+  unfolding refused history.step left-by call-answer save-with is-stop HandedOut
+  next-call inv long none m =
+      let x = no-session-stops (s .firmware) (s .ring) (s .fram) (arguments v bench-staging) no-session refl in
+      let r : is-stop (save (s .firmware) (s .ring) (s .fram) (saving v bench-staging (from-session no-session)) .answer) ≡ true = ap is-stop (x .1) in
+      let answer : save (s .firmware) (s .ring) (s .fram) (saving v bench-staging (from-session no-session)) .answer ≡ Stopped (cond (blank ring) 6 8) =
+      (λ i. save (eo i) (s .ring) (s .fram) (saving v bench-staging (from-session no-session)) .answer) ∙ without-session s inv long v small ∙ ap (λ (y : List ℕ). Stopped (cond (blank y) 6 8)) er in
       record {
         stops = r;
         answers = answer;
         opens = λ e. absurd (stopped-not-begun _ e);
         keeps = λ n. inl (T-true _ r);
       }
-  save-call inv long (some z) m =
-      let same : save (s .firmware) (s .ring) (s .fram) (saving v bench-staging z) ≡ save this-firmware ring fram (saving v bench-staging z) =
-      λ i. save (eo i) (er i) (ef i) (saving v bench-staging z) in
-      record {
-        stops = ap (λ (y : Begin). is-stop (y .answer)) same;
-        answers = ap (λ (y : Begin). y .answer) same;
-        opens = λ e. opened s _ _ _ _ _ (ap (λ (y : Begin). y .answer) same ∙ e) same;
-        keeps = λ n. inr (refl, refl, n, m z refl);
-      }
+  next-call inv long (some z) m = follows (from-session z) (m z refl)
 
   power-up-call : CallOf s (powered-up (powering-up v bench-staging)) (power-up this-firmware ring fram (powering-up v bench-staging)) (nonce-of v)
   unfolding refused history.step left-by Keeps call-answer
@@ -133,10 +130,10 @@ module _ (s : State) (ring fram : List ℕ) (er : s .ring ≡ ring) (ef : s .fra
       }
 
   any-call : Holds bench-setup s → length (s .fram) ≡ fram-length → (first again : Bool) (o : Option Session) → ((z : Session) → o ≡ some z → List·Memᴰ z (s .sessions))
-      → CallOf s (cond first (first-saved (first-saving v bench-staging)) (cond again (saved (saving v bench-staging (given o))) (powered-up (powering-up v bench-staging))))
-      (cond first (first-save this-firmware ring fram (first-saving v bench-staging)) (cond again (save-with ring fram o v bench-staging) (power-up this-firmware ring fram (powering-up v bench-staging)))) (nonce-of v)
+      → CallOf s (cond first (saved (saving v bench-staging zero-tag)) (cond again (saved (saving v bench-staging (from-session (given o)))) (powered-up (powering-up v bench-staging))))
+      (cond first (save this-firmware ring fram (saving v bench-staging zero-tag)) (cond again (save-with ring fram o v bench-staging) (power-up this-firmware ring fram (powering-up v bench-staging)))) (nonce-of v)
   any-call inv long true again o m = first-call
-  any-call inv long false true o m = save-call inv long o m
+  any-call inv long false true o m = next-call inv long o m
   any-call inv long false false o m = power-up-call
 
 -- ---- an operation
@@ -164,9 +161,9 @@ first-phase-left (At p q) k = omega arith
 first-phase-left (AtPending p q) k = omega arith
 
 kind-to-come : (ring fram : List ℕ) (o : Option Session) (v : ℕ) (first again : Bool)
-    → cond first (first-save this-firmware ring fram (first-saving v bench-staging)) (cond again (save-with ring fram o v bench-staging) (power-up this-firmware ring fram (powering-up v bench-staging))) .answer ≡ Begun
-    → 1 ≤ left-of (cond first (first-save this-firmware ring fram (first-saving v bench-staging)) (cond again (save-with ring fram o v bench-staging) (power-up this-firmware ring fram (powering-up v bench-staging))) .job)
-unfolding first-save save power-up save-with job-of left
+    → cond first (save this-firmware ring fram (saving v bench-staging zero-tag)) (cond again (save-with ring fram o v bench-staging) (power-up this-firmware ring fram (powering-up v bench-staging))) .answer ≡ Begun
+    → 1 ≤ left-of (cond first (save this-firmware ring fram (saving v bench-staging zero-tag)) (cond again (save-with ring fram o v bench-staging) (power-up this-firmware ring fram (powering-up v bench-staging))) .job)
+unfolding save power-up save-with job-of left
 kind-to-come ring fram o v true again e = begin-to-come _ _ _ _ _ _ _ e (omega arith)
 kind-to-come ring fram none v false true e = absurd (stopped-not-begun _ e)
 kind-to-come ring fram (some z) v false true e = begin-to-come _ _ _ _ _ _ _ e (omega arith)

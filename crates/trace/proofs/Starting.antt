@@ -7,15 +7,16 @@ use mathlib.Core.List.{List, []}
 use lib.ListN.{replicate}
 use borrow.Author.Tests.{eq-eqb, ne-eqb}
 use Rattle.protocol.specs.Types.{this-firmware}
-use Rattle.octets.specs.Limits.{part-limit, tag-length}
+use Rattle.octets.specs.Limits.{part-limit}
 use Rattle.octets.specs.Octets.{blank, bytes}
 use Rattle.protocol.specs.Types as types
-use Rattle.protocol.specs.Operations.{Begin, no-job, first-save, save, power-up}
-use Rattle.jobs.specs.View.{view-job, view-session, view-start, view-started, save-arguments, first-saves, saves}
+use Rattle.protocol.specs.Calls.{From, from-session, saves}
+use Rattle.protocol.specs.Operations.{Begin, no-job, save, power-up}
+use Rattle.jobs.specs.View.{view-job, view-session, view-start, view-started, save-arguments}
 use Rattle.jobs.specs.declared.types.Started.{Started}
 use Rattle.keeper.specs.View.{view-powered-up, powers-up}
 use Rattle.keeper.specs.declared.types.PoweredUp.{PoweredUp}
-use Rattle.trace.specs.Trace.{kind, value, bench-pages, bench-slots, bench-key, nonce-of, first-saving, powering-up, save-with, start}
+use Rattle.trace.specs.Trace.{kind, value, bench-pages, bench-slots, bench-key, nonce-of, saving, zero-tag, powering-up, save-with, start}
 use Rattle.trace.specs.declared.unit.Held.{Held}
 use Rattle.trace.specs.View.{view-held, Starts}
 
@@ -23,20 +24,22 @@ starts-as : (r : Started) (staging : List ℕ) (b : Begin) → view-started r st
 starts-as r staging b e = record { answer = ap (λ (y : Begin). y .answer) e; job = ap (λ (y : Begin). y .job) e; sealed = ap (λ (y : Begin). y .staging) e }
 
 module _ (ring fram staging staging′ nonce secret : List ℕ) (v : ℕ) (n : nonce ≡ nonce-of v) (s : secret ≡ bytes 4 v) where
-  pub first-starts : (r : Started)
-      → view-started r staging′ ≡ first-save this-firmware ring fram (first-saves (save-arguments bench-pages bench-slots bench-key nonce v [] secret staging) (replicate tag-length 0))
-      → Starts r staging′ (first-save this-firmware ring fram (first-saving v staging))
-  first-starts r e =
-      starts-as r staging′ _ (e ∙ (λ i. first-save this-firmware ring fram (first-saves (save-arguments bench-pages bench-slots bench-key (n i) v [] (s i) staging) (replicate tag-length 0))))
+  pub save-starts : (r : Started) (from : From) → view-started r staging′ ≡ save this-firmware ring fram (saves (save-arguments bench-pages bench-slots bench-key nonce v [] secret staging) from)
+      → Starts r staging′ (save this-firmware ring fram (saving v staging from))
+  save-starts r from e =
+      starts-as r staging′ _ (e ∙ (λ i. save this-firmware ring fram (saves (save-arguments bench-pages bench-slots bench-key (n i) v [] (s i) staging) from)))
 
-  pub save-starts : (r : Started) (held : Held) → held .present ≡ true
-      → view-started r staging′ ≡ save this-firmware ring fram (saves (save-arguments bench-pages bench-slots bench-key nonce v [] secret staging) (held .session))
-      → Starts r staging′ (save-with ring fram (view-held held) v staging)
+module _ (ring fram staging staging′ : List ℕ) (v : ℕ) (r : Started) (from : From) (s : Starts r staging′ (save this-firmware ring fram (saving v staging from))) where
+  -- with a starting tag
+  pub first-starts : from ≡ zero-tag → Starts r staging′ (save this-firmware ring fram (saving v staging zero-tag))
+  first-starts e = subst (λ (y : From). Starts r staging′ (save this-firmware ring fram (saving v staging y))) e s
+
+  -- with the session that is held
+  pub next-starts : (held : Held) → held .present ≡ true → from ≡ from-session (view-session (held .session)) → Starts r staging′ (save-with ring fram (view-held held) v staging)
   unfolding save-with
-  save-starts r held p e =
-      starts-as r staging′ _
-      (e ∙ (λ i. save this-firmware ring fram (saves (save-arguments bench-pages bench-slots bench-key (n i) v [] (s i) staging) (held .session)))
-      ∙ ap (λ (b : Bool). save-with ring fram (cond b (some (view-session (held .session))) none) v staging) (sym p))
+  next-starts held p e =
+      subst (λ (b : Bool). Starts r staging′ (save-with ring fram (cond b (some (view-session (held .session))) none) v staging)) (sym p)
+      (subst (λ (y : From). Starts r staging′ (save this-firmware ring fram (saving v staging y))) e s)
 
 -- with no session
 pub none-starts : (ring fram staging : List ℕ) (v : ℕ) (r : Started) (held : Held) → held .present ≡ false
@@ -56,14 +59,14 @@ power-up-starts ring fram staging staging′ state′ nonce v p n e =
 -- ---- by the word's kind
 
 module _ (ring fram : List ℕ) (held : Held) (w v : ℕ) (staging staging′ : List ℕ) (r : Started) (e : v ≡ value w) where
-  pub starts-first : kind w ≡ 1 → Starts r staging′ (first-save this-firmware ring fram (first-saving v staging)) → Starts r staging′ (start ring fram (view-held held) w staging)
+  pub starts-first : kind w ≡ 1 → Starts r staging′ (save this-firmware ring fram (saving v staging zero-tag)) → Starts r staging′ (start ring fram (view-held held) w staging)
   unfolding start
-  starts-first k s = rw (eq-eqb (kind w) 1 k) (subst (λ (y : ℕ). Starts r staging′ (first-save this-firmware ring fram (first-saving y staging))) e s)
+  starts-first k s = rw (eq-eqb (kind w) 1 k) (subst (λ (y : ℕ). Starts r staging′ (save this-firmware ring fram (saving y staging zero-tag))) e s)
 
-  pub starts-save : (kind w ≡ 1 → ⊥) → kind w ≡ 2 → Starts r staging′ (save-with ring fram (view-held held) v staging)
+  pub starts-next : (kind w ≡ 1 → ⊥) → kind w ≡ 2 → Starts r staging′ (save-with ring fram (view-held held) v staging)
       → Starts r staging′ (start ring fram (view-held held) w staging)
   unfolding start
-  starts-save k l s = rw (ne-eqb (kind w) 1 k, eq-eqb (kind w) 2 l) (subst (λ (y : ℕ). Starts r staging′ (save-with ring fram (view-held held) y staging)) e s)
+  starts-next k l s = rw (ne-eqb (kind w) 1 k, eq-eqb (kind w) 2 l) (subst (λ (y : ℕ). Starts r staging′ (save-with ring fram (view-held held) y staging)) e s)
 
   pub starts-power-up : (kind w ≡ 1 → ⊥) → (kind w ≡ 2 → ⊥) → Starts r staging′ (power-up this-firmware ring fram (powering-up v staging))
       → Starts r staging′ (start ring fram (view-held held) w staging)

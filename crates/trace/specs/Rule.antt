@@ -7,13 +7,13 @@ use mathlib.Core.Option.{Option, none, some}
 use mathlib.Core.List.{List, [], _∷_, _++_, List·Memᴰ}
 use lib.Dec.{eqb}
 use Rattle.protocol.specs.Types.{Session, Start, Begun, Stopped, this-firmware}
-use Rattle.protocol.specs.Calls.{Advances, PowersUp, Setup, Event, first-saved, saved, powered-up, advanced-by, PowerLoss, updated-to, lost-in-store}
-use Rattle.protocol.specs.Operations.{no-session, first-save, save, power-up, advance}
+use Rattle.protocol.specs.Calls.{Advances, PowersUp, from-session, Setup, Event, saved, powered-up, advanced-by, PowerLoss, updated-to, lost-in-store}
+use Rattle.protocol.specs.Operations.{no-session, save, power-up, advance}
 use Rattle.protocol.specs.History as history
 use Rattle.protocol.specs.History.{State, Handed, fresh, is-stopped, refused, run, Allowed}
 use Rattle.protocol.specs.Recovery.{is-going, with-handed, Exactly, Seen, Last, Outcome}
 use Rattle.ring_line.specs.Text.{refused-line, ring-text}
-use Rattle.trace.specs.Trace.{kind, value, is-cut, bench-pages, bench-slots, bench-sizes, bench-key, bench-staging, nonce-of, first-saving, saving, powering-up, start, stores-until, Bench, operation, step, after, lines, blank-bench}
+use Rattle.trace.specs.Trace.{kind, value, is-cut, bench-pages, bench-slots, bench-sizes, bench-key, bench-staging, nonce-of, saving, zero-tag, powering-up, start, stores-until, Bench, operation, step, after, lines, blank-bench}
 
 abbrev pub bench-setup : Setup
 bench-setup = record { sizes = bench-sizes; key = bench-key }
@@ -28,8 +28,8 @@ given (some z) = z
 -- the call that begins the operation of a word
 unfoldable pub call : Option Session → ℕ → Event
 call session w =
-    cond (eqb (kind w) 1) (first-saved (first-saving (value w) bench-staging))
-    (cond (eqb (kind w) 2) (saved (saving (value w) bench-staging (given session)))
+    cond (eqb (kind w) 1) (saved (saving (value w) bench-staging zero-tag))
+    (cond (eqb (kind w) 2) (saved (saving (value w) bench-staging (from-session (given session))))
     (powered-up (powering-up (value w) bench-staging)))
 
 abbrev pub advance-of : Handed → Advances
@@ -62,7 +62,6 @@ events-of b s (w ∷ more) =
 
 -- what a start answers; it is asked of no other event
 unfoldable pub call-answer : State → Event → Start
-call-answer s (first-saved a) = first-save (s .firmware) (s .ring) (s .fram) a .answer
 call-answer s (saved a) = save (s .firmware) (s .ring) (s .fram) a .answer
 call-answer s (powered-up a) = power-up (s .firmware) (s .ring) (s .fram) a .answer
 call-answer s (advanced-by a) = Begun

@@ -10,8 +10,8 @@ use Rattle.octets.specs.Octets.{put, blank, erased, bytes}
 use Rattle.octets.specs.Word.{word-at}
 use Rattle.stops.specs.Stops.{first-of}
 use Rattle.protocol.specs.Types.{Session, Progress, GoingOn, Saved, Restored, Refused, Start, Begun, Stopped, this-firmware}
-use Rattle.protocol.specs.Calls.{Sizes, sizes, SaveArguments, FirstSave, Saves, PowersUp}
-use Rattle.protocol.specs.Operations.{Begin, Moved, no-job, no-session, first-save, save, power-up, advance}
+use Rattle.protocol.specs.Calls.{Sizes, sizes, From, from-tag, from-session, SaveArguments, Saves, saves, PowersUp}
+use Rattle.protocol.specs.Operations.{Begin, Moved, no-job, no-session, save, power-up, advance}
 use Rattle.protocol.specs.Recovery.{is-going}
 use Rattle.ring_line.specs.Text.{refused-line, ring-text}
 use Rattle.ring_line.specs.Line.{line-limit}
@@ -89,11 +89,12 @@ nonce-of v = bytes nonce-length v
 abbrev pub arguments : ℕ → List ℕ → SaveArguments
 arguments v staging = record { sizes = bench-sizes; key = bench-key; nonce = nonce-of v; packet = v; open-part = []; secret = bytes 4 v; staging = staging }
 
-abbrev pub first-saving : ℕ → List ℕ → FirstSave
-first-saving v staging = record { arguments = arguments v staging; starting-tag = replicate tag-length 0 }
+abbrev pub saving : ℕ → List ℕ → From → Saves
+saving v staging from = saves (arguments v staging) from
 
-abbrev pub saving : ℕ → List ℕ → Session → Saves
-saving v staging z = record { arguments = arguments v staging; session = z }
+-- a first save's starting tag
+abbrev pub zero-tag : From
+zero-tag = from-tag (replicate tag-length 0)
 
 abbrev pub powering-up : ℕ → List ℕ → PowersUp
 powering-up v staging = record { sizes = bench-sizes; key = bench-key; nonce = nonce-of v; staging = staging; state = replicate part-limit 0 }
@@ -108,12 +109,12 @@ module _ (ring fram : List ℕ) where
   -- with no session a save is refused: 6 on a blank ring, else 8
   unfoldable pub save-with : Option Session → ℕ → List ℕ → Begin
   save-with none v staging = record { answer = Stopped (cond (blank ring) 6 8); job = no-job; secret-length = 0; staging = staging; state = [] }
-  save-with (some z) v staging = save this-firmware ring fram (saving v staging z)
+  save-with (some z) v staging = save this-firmware ring fram (saving v staging (from-session z))
 
   -- the start that a word names
   unfoldable pub start : Option Session → ℕ → List ℕ → Begin
   start session w staging =
-      cond (eqb (kind w) 1) (first-save this-firmware ring fram (first-saving (value w) staging))
+      cond (eqb (kind w) 1) (save this-firmware ring fram (saving (value w) staging zero-tag))
       (cond (eqb (kind w) 2) (save-with session (value w) staging)
       (power-up this-firmware ring fram (powering-up (value w) staging)))
 

@@ -6,9 +6,11 @@ use crate::words::FIRST_SAVE;
 use crate::words::SAVE;
 use crate::words::kind;
 use crate::words::value;
+use keeper::From;
 use keeper::Start;
 use keeper::Started;
-use keeper::first_save;
+use keeper::from_session;
+use keeper::from_tag;
 use keeper::no_job;
 use keeper::power_up;
 use octets::blank;
@@ -22,9 +24,10 @@ ghost use mathlib.Core.Path.{_≡_};
 ghost use mathlib.Core.Bool.{cond};
 ghost use Rattle.octets.specs.Octets.{blank};
 ghost use Rattle.protocol.specs.Types.{Stopped, this-firmware};
-ghost use Rattle.protocol.specs.Operations.{no-job, first-save, power-up};
+ghost use Rattle.protocol.specs.Operations.{no-job, save, power-up};
 ghost use Rattle.jobs.specs.View.{view-start, view-job};
-ghost use Rattle.trace.specs.Trace.{nonce-of, first-saving, powering-up, save-with, start};
+ghost use Rattle.saves.specs.View.{view-from};
+ghost use Rattle.trace.specs.Trace.{nonce-of, saving, zero-tag, powering-up, save-with, start};
 ghost use Rattle.trace.specs.View.{view-held, Starts};
 
 // A value as a nonce, most significant byte first.
@@ -36,24 +39,31 @@ fn nonce_of(value: u32) -> [u8; 12]
     nonce
 }
 
-fn start_first_save(value: u32, ring: &[u8], fram: &[u8], staging: &mut [u8]) -> Started
-    ensures { λ r. ⌜ Starts r (now (staging .exit)) (first-save this-firmware (now (ring .entry)) (now (fram .entry)) (first-saving value (now (staging .entry)))) ⌝ }
+// The keeper's save, with what the bench gives it.
+fn start_save(from: From, value: u32, ring: &[u8], fram: &[u8], staging: &mut [u8]) -> Started
+    ensures { λ r. ⌜ Starts r (now (staging .exit)) (save this-firmware (now (ring .entry)) (now (fram .entry)) (saving value (now (staging .entry)) (view-from from))) ⌝ }
 {
     let key = [0u8; KEY_LENGTH];
-    let tag = [0u8; TAG_LENGTH];
-    first_save(
+    from.save(
         PAGES,
         SLOTS,
         ring,
         fram,
         &key,
         &nonce_of(value),
-        &tag,
         value as usize,
         b"",
         &word_bytes(value),
         staging,
     )
+}
+
+fn start_first(value: u32, ring: &[u8], fram: &[u8], staging: &mut [u8]) -> Started
+    ensures { λ r. ⌜ Starts r (now (staging .exit)) (save this-firmware (now (ring .entry)) (now (fram .entry)) (saving value (now (staging .entry)) zero-tag)) ⌝ }
+{
+    let tag = [0u8; TAG_LENGTH];
+    let from = from_tag(&tag);
+    start_save(from, value, ring, fram, staging)
 }
 
 // With no session the keeper is not called.
@@ -73,24 +83,13 @@ fn no_save(ring: &[u8]) -> Started
     }
 }
 
-fn start_save(held: Held, value: u32, ring: &[u8], fram: &[u8], staging: &mut [u8]) -> Started
+fn start_next(held: Held, value: u32, ring: &[u8], fram: &[u8], staging: &mut [u8]) -> Started
     ensures { λ r. ⌜ Starts r (now (staging .exit)) (save-with (now (ring .entry)) (now (fram .entry)) (view-held held) value (now (staging .entry))) ⌝ }
 {
     if held.present {
-        let key = [0u8; KEY_LENGTH];
         let session = held.session;
-        return session.save(
-            PAGES,
-            SLOTS,
-            ring,
-            fram,
-            &key,
-            &nonce_of(value),
-            value as usize,
-            b"",
-            &word_bytes(value),
-            staging,
-        );
+        let from = from_session(session);
+        return start_save(from, value, ring, fram, staging);
     }
     no_save(ring)
 }
@@ -120,10 +119,10 @@ pub(crate) fn start(w: u32, held: Held, ring: &[u8], fram: &[u8], staging: &mut 
     ensures { λ r. ⌜ Starts r (now (staging .exit)) (start (now (ring .entry)) (now (fram .entry)) (view-held held) w (now (staging .entry))) ⌝ }
 {
     if kind(w) == FIRST_SAVE {
-        return start_first_save(value(w), ring, fram, staging);
+        return start_first(value(w), ring, fram, staging);
     }
     if kind(w) == SAVE {
-        return start_save(held, value(w), ring, fram, staging);
+        return start_next(held, value(w), ring, fram, staging);
     }
     start_power_up(value(w), ring, fram, staging)
 }

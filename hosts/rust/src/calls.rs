@@ -37,14 +37,9 @@ extern "C" {
     fn keeper_open(key: *const u8, key_len: usize, nonce: *const u8, nonce_len: usize,
         aad: *const u8, aad_len: usize, cipher: *const u8, cipher_len: usize,
         tag: *const u8, tag_len: usize, out: *mut u8, out_len: usize) -> u32;
-    fn keeper_first_save(pages: usize, slots: usize, ring: *const u8, ring_len: usize,
-        fram: *const u8, fram_len: usize, key: *const u8, key_len: usize,
-        nonce: *const u8, nonce_len: usize, starting_tag: *const u8, starting_tag_len: usize,
-        packet: u32, open_part: *const u8, open_len: usize, secret: *const u8, secret_len: usize,
-        staging: *mut u8, staging_len: usize, job: *mut u8, job_len: usize) -> u32;
     fn keeper_save(pages: usize, slots: usize, ring: *const u8, ring_len: usize,
         fram: *const u8, fram_len: usize, key: *const u8, key_len: usize,
-        nonce: *const u8, nonce_len: usize, session: *const u8, session_len: usize,
+        nonce: *const u8, nonce_len: usize, from: *const u8, from_len: usize,
         packet: u32, open_part: *const u8, open_len: usize, secret: *const u8, secret_len: usize,
         staging: *mut u8, staging_len: usize, job: *mut u8, job_len: usize) -> u32;
     fn keeper_power_up(pages: usize, slots: usize, ring: *const u8, ring_len: usize,
@@ -81,31 +76,17 @@ pub fn open(key: &[u8], nonce: &[u8], aad: &[u8], cipher: &[u8], tag: &[u8], out
     }
 }
 
-/// Starts the first save: the checkpoint goes into `staging`, its job into `job`.
-#[allow(clippy::too_many_arguments)]
-pub fn first_save(
-    sizes: Sizes, ring: &[u8], fram: &[u8], key: &[u8], nonce: &[u8], starting_tag: &[u8], packet: u32,
-    open_part: &[u8], secret: &[u8], staging: &mut [u8], job: &mut [u8]
-) -> u32 {
-    // Sound: see the top of this file.
-    unsafe {
-        keeper_first_save(sizes.pages, sizes.slots, ring.as_ptr(), ring.len(), fram.as_ptr(), fram.len(),
-            key.as_ptr(), key.len(), nonce.as_ptr(), nonce.len(), starting_tag.as_ptr(), starting_tag.len(),
-            packet, open_part.as_ptr(), open_part.len(), secret.as_ptr(), secret.len(),
-            staging.as_mut_ptr(), staging.len(), job.as_mut_ptr(), job.len())
-    }
-}
-
-/// Starts a save: the checkpoint goes into `staging`, its job into `job`.
+/// Starts a save: the checkpoint goes into `staging`, its job into `job`. `from` is what it follows: 16 bytes are a
+/// starting tag, 48 a session, any other length is stop 3.
 #[allow(clippy::too_many_arguments)]
 pub fn save(
-    sizes: Sizes, ring: &[u8], fram: &[u8], key: &[u8], nonce: &[u8], session: &[u8], packet: u32,
+    sizes: Sizes, ring: &[u8], fram: &[u8], key: &[u8], nonce: &[u8], from: &[u8], packet: u32,
     open_part: &[u8], secret: &[u8], staging: &mut [u8], job: &mut [u8]
 ) -> u32 {
     // Sound: see the top of this file.
     unsafe {
         keeper_save(sizes.pages, sizes.slots, ring.as_ptr(), ring.len(), fram.as_ptr(), fram.len(),
-            key.as_ptr(), key.len(), nonce.as_ptr(), nonce.len(), session.as_ptr(), session.len(),
+            key.as_ptr(), key.len(), nonce.as_ptr(), nonce.len(), from.as_ptr(), from.len(),
             packet, open_part.as_ptr(), open_part.len(), secret.as_ptr(), secret.len(),
             staging.as_mut_ptr(), staging.len(), job.as_mut_ptr(), job.len())
     }

@@ -11,7 +11,7 @@
 //! Checkpoints of the older form, which was 44 bytes plus the parts and had no packet number, are still read; a power-up
 //! seals them anew in the longer form.
 //!
-//! A start ([`first_save`], [`save`] or [`power_up`]) seals a checkpoint into a staging buffer, at least one half long,
+//! A start ([`save`] or [`power_up`]) seals a checkpoint into a staging buffer, at least one half long,
 //! and answers a [`Job`]; each [`advance`] then makes one store: a page erased, a word of 4 bytes, or a record. The last
 //! one says 'saved' or 'restored' and hands out the [`Session`] that the next save needs. Wherever the power fails, a
 //! power-up resumes the newest complete checkpoint and no other. A [`Stop`] says why a call was refused; then no buffer
@@ -51,9 +51,11 @@
 //! let key = [7; 32];
 //!
 //! // No packet was heard yet; then packet 7.
-//! let job = first_save(sizes, &ring, &fram, &key, &[1; 12], &[9; 16], 0, b"volume 3", b"timer 00", &mut staging)?;
+//! let first = Follows::StartingTag(&[9; 16]);
+//! let job = save(sizes, &ring, &fram, &key, &[1; 12], first, 0, b"volume 3", b"timer 00", &mut staging)?;
 //! let session = finish(sizes, &mut ring, &mut fram, &staging, job)?;
-//! let job = save(sizes, &ring, &fram, &key, &[2; 12], &session, 7, b"volume 4", b"timer 09", &mut staging)?;
+//! let next = Follows::Session(&session);
+//! let job = save(sizes, &ring, &fram, &key, &[2; 12], next, 7, b"volume 4", b"timer 09", &mut staging)?;
 //! finish(sizes, &mut ring, &mut fram, &staging, job)?;
 //!
 //! // The supply dips: only ring and FRAM are left.
@@ -66,12 +68,14 @@
 //! assert_eq!((seen.restarts, seen.open_part), (1, &b"volume 4"[..]));
 //!
 //! // The next save starts from the session that the power-up handed out. Packet 7 again: the restart is kept.
-//! let job = save(sizes, &ring, &fram, &key, &[4; 12], &session, 7, b"volume 4", b"timer 10", &mut staging)?;
+//! let next = Follows::Session(&session);
+//! let job = save(sizes, &ring, &fram, &key, &[4; 12], next, 7, b"volume 4", b"timer 10", &mut staging)?;
 //! let session = finish(sizes, &mut ring, &mut fram, &staging, job)?;
 //! assert_eq!(look(sizes, &ring, &fram, &key)?.restarts, 1);
 //!
 //! // Packet 8 is progress.
-//! let job = save(sizes, &ring, &fram, &key, &[5; 12], &session, 8, b"volume 4", b"timer 11", &mut staging)?;
+//! let next = Follows::Session(&session);
+//! let job = save(sizes, &ring, &fram, &key, &[5; 12], next, 8, b"volume 4", b"timer 11", &mut staging)?;
 //! finish(sizes, &mut ring, &mut fram, &staging, job)?;
 //! assert_eq!(look(sizes, &ring, &fram, &key)?.restarts, 0);
 //! # Ok(())
@@ -137,6 +141,15 @@ impl Session {
     }
 }
 
+/// What a save's checkpoint follows.
+#[derive(Clone, Copy, Debug, PartialEq, Eq)]
+pub enum Follows<'a> {
+    /// None: 16 random bytes stand for the tag of a checkpoint before. On a blank ring alone.
+    StartingTag(&'a [u8; 16]),
+    /// The newest one, of which this is the session.
+    Session(&'a Session),
+}
+
 /// What a power-up answers.
 #[derive(Clone, Debug, PartialEq, Eq)]
 pub struct PoweredUp {
@@ -188,39 +201,21 @@ pub fn open(key: &[u8], nonce: &[u8], aad: &[u8], cipher: &[u8], tag: &[u8], out
     done(calls::open(key, nonce, aad, cipher, tag, out))
 }
 
-/// Starts the first save, on a blank ring: restarts 0, half A, page 0, slot 0. The starting tag is 16 random bytes;
+/// Starts a save. `follows` says what the checkpoint follows:
+///
+/// - [`Follows::StartingTag`], on a blank ring alone: the unit's first checkpoint, with restarts 0, in half A, at page 0,
+///   slot 0, and the starting tag as its previous tag;
+/// - [`Follows::Session`]: the half that the newest record does not name, the next target, and the previous tag from the
+///   session. Restarts are set to 0 if `packet` is above the session's number; otherwise restarts and number are the
+///   session's.
+///
 /// `packet` is the packet number last heard, up to 2^30 − 1, and 0 where none was.
 ///
 /// # Errors
 ///
-/// [`Stop::RingSize`], [`Stop::FramSize`], [`Stop::KeyNonceTagSize`], [`Stop::BufferSize`], [`Stop::PacketTooLarge`],
-/// [`Stop::RingInUse`].
-#[allow(clippy::too_many_arguments)]
-pub fn first_save(
-    sizes: Sizes,
-    ring: &[u8],
-    fram: &[u8],
-    key: &[u8],
-    nonce: &[u8],
-    starting_tag: &[u8],
-    packet: u32,
-    open_part: &[u8],
-    secret: &[u8],
-    staging: &mut [u8],
-) -> Result<Job, Stop> {
-    let mut job = [0; calls::JOB];
-    done(calls::first_save(sizes, ring, fram, key, nonce, starting_tag, packet, open_part, secret, staging, &mut job))?;
-    Ok(Job(job))
-}
-
-/// Starts a save: the half that the newest record does not name, the next target, the previous tag from the session.
-/// `packet` is the packet number last heard, up to 2^30 − 1. Above the session's number it sets restarts to 0; otherwise
-/// restarts and number are the session's.
-///
-/// # Errors
-///
-/// [`Stop::RingSize`], [`Stop::FramSize`], [`Stop::KeyNonceTagSize`], [`Stop::BufferSize`], [`Stop::PacketTooLarge`],
-/// [`Stop::RingBlank`], [`Stop::RingUnreadable`], [`Stop::StaleSession`], [`Stop::PagePending`], [`Stop::NonceUsed`].
+/// [`Stop::RingSize`], [`Stop::FramSize`], [`Stop::KeyNonceTagSize`], [`Stop::BufferSize`], [`Stop::PacketTooLarge`]; with
+/// a starting tag [`Stop::RingInUse`]; with a session [`Stop::RingBlank`], [`Stop::RingUnreadable`],
+/// [`Stop::StaleSession`], [`Stop::PagePending`], [`Stop::NonceUsed`].
 #[allow(clippy::too_many_arguments)]
 pub fn save(
     sizes: Sizes,
@@ -228,14 +223,18 @@ pub fn save(
     fram: &[u8],
     key: &[u8],
     nonce: &[u8],
-    session: &Session,
+    follows: Follows,
     packet: u32,
     open_part: &[u8],
     secret: &[u8],
     staging: &mut [u8],
 ) -> Result<Job, Stop> {
+    let from: &[u8] = match follows {
+        Follows::StartingTag(tag) => tag,
+        Follows::Session(session) => &session.0,
+    };
     let mut job = [0; calls::JOB];
-    done(calls::save(sizes, ring, fram, key, nonce, &session.0, packet, open_part, secret, staging, &mut job))?;
+    done(calls::save(sizes, ring, fram, key, nonce, from, packet, open_part, secret, staging, &mut job))?;
     Ok(Job(job))
 }
 

@@ -41,8 +41,8 @@ fn four_checkpoints(random: &mut Random, open: usize, secret: usize, spare: usiz
     let (open_part, secret_part) = (random.bytes(open), random.bytes(secret));
     let mut staging = before.clone();
     #[rustfmt::skip]
-    let job = first_save(SIZES, &ring, &fram, &key, &nonces[0], &starting_tag, heard, &open_part, &secret_part,
-        &mut staging).unwrap();
+    let job = save(SIZES, &ring, &fram, &key, &nonces[0], Follows::StartingTag(&starting_tag), heard, &open_part,
+        &secret_part, &mut staging).unwrap();
     let first = Checkpoint {
         form: Form::Longer,
         packet: heard,
@@ -59,8 +59,8 @@ fn four_checkpoints(random: &mut Random, open: usize, secret: usize, spare: usiz
     let (open_part, secret_part) = (random.bytes(open), random.bytes(secret));
     let mut staging = before.clone();
     #[rustfmt::skip]
-    let job = save(SIZES, &ring, &fram, &key, &nonces[1], &session, newer, &open_part, &secret_part, &mut staging)
-        .unwrap();
+    let job = save(SIZES, &ring, &fram, &key, &nonces[1], Follows::Session(&session), newer, &open_part, &secret_part,
+        &mut staging).unwrap();
     let previous_tag = tag_of(&sealed);
     let second = Checkpoint { packet: newer, open_part, secret: secret_part, previous_tag, nonce: nonces[1], ..first };
     let sealed = checked(&staging, &before, &key, &second);
@@ -80,8 +80,8 @@ fn four_checkpoints(random: &mut Random, open: usize, secret: usize, spare: usiz
     let (open_part, secret_part) = (random.bytes(open), random.bytes(secret));
     let mut staging = before.clone();
     #[rustfmt::skip]
-    let job = save(SIZES, &ring, &fram, &key, &nonces[3], &session, stale, &open_part, &secret_part, &mut staging)
-        .unwrap();
+    let job = save(SIZES, &ring, &fram, &key, &nonces[3], Follows::Session(&session), stale, &open_part, &secret_part,
+        &mut staging).unwrap();
     let previous_tag = tag_of(&sealed);
     let fourth = Checkpoint { open_part, secret: secret_part, previous_tag, nonce: nonces[3], ..third };
     assert_eq!((fourth.restarts, fourth.packet), (1, newer));

@@ -24,7 +24,7 @@ fn keeper(operation: Operation, c: &mut Lent) -> u32 {
     let sizes = Sizes { pages: c.pages, slots: c.slots };
     #[rustfmt::skip]
     let answer = match operation {
-        Operation::FirstSave => calls::first_save(sizes, &c.ring, &c.fram, &c.key, &c.nonce, &c.starting_tag,
+        Operation::FirstSave => calls::save(sizes, &c.ring, &c.fram, &c.key, &c.nonce, &c.starting_tag,
             c.packet, &c.open_part, &c.secret, &mut c.staging, &mut c.job),
         Operation::Save => calls::save(sizes, &c.ring, &c.fram, &c.key, &c.nonce, &c.session,
             c.packet, &c.open_part, &c.secret, &mut c.staging, &mut c.job),

@@ -1,5 +1,5 @@
-//! The firmwares that a unit may have: document 01's, those of document 02's A.2 and A.5, and that of A.6, which is the
-//! keeper's.
+//! The firmwares that a unit may have: document 01's, those of document 02's A.2, A.5 and A.6, and that of A.7, which is
+//! the keeper's.
 
 use crate::layout::Form;
 
@@ -14,10 +14,18 @@ pub struct Firmware {
     pub fram_limit: usize,
     /// At power-up 11, 12 and 13 go before 10.
     pub half_first: bool,
+    /// One save, with a starting tag or a session, for first save and save.
+    pub one_save: bool,
 }
 
-pub const DOCUMENT_01: Firmware =
-    Firmware { name: "document 01's", form: Form::Older, part_limit: 4096, fram_limit: 131_072, half_first: false };
+pub const DOCUMENT_01: Firmware = Firmware {
+    name: "document 01's",
+    form: Form::Older,
+    part_limit: 4096,
+    fram_limit: 131_072,
+    half_first: false,
+    one_save: false,
+};
 
 pub const A_2: Firmware = Firmware { name: "A.2's", form: Form::Longer, ..DOCUMENT_01 };
 
@@ -26,10 +34,13 @@ pub const A_2: Firmware = Firmware { name: "A.2's", form: Form::Longer, ..DOCUME
 pub const A_5: Firmware = Firmware { name: "A.5's", part_limit: 32_768, fram_limit: 262_144, ..A_2 };
 
 /// A.6: "At power-up 11, 12 and 13 now go before 10, and the resealing's 4 goes after 10."
-pub const KEEPER: Firmware = Firmware { name: "A.6's", half_first: true, ..A_5 };
+pub const A_6: Firmware = Firmware { name: "A.6's", half_first: true, ..A_5 };
+
+/// A.7: "Merge first save and save: the caller gives either a starting tag or a session."
+pub const KEEPER: Firmware = Firmware { name: "A.7's", one_save: true, ..A_6 };
 
 /// In the order in which a unit gets them.
-pub const FIRMWARES: [Firmware; 4] = [DOCUMENT_01, A_2, A_5, KEEPER];
+pub const FIRMWARES: [Firmware; 5] = [DOCUMENT_01, A_2, A_5, A_6, KEEPER];
 
 impl Firmware {
     /// Those that a unit with this one may be updated to.

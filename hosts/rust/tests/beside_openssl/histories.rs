@@ -3,7 +3,7 @@
 //! up to some cut.
 
 use crate::compare::{ANSWERS, SEEN};
-use crate::firmware::{Firmware, A_2, A_5, DOCUMENT_01, KEEPER};
+use crate::firmware::{Firmware, A_2, A_5, A_6, DOCUMENT_01, KEEPER};
 use crate::history::{Event, History, Twist};
 use crate::layout::{Form, LARGEST_PACKET};
 use crate::operations::Operation;
@@ -36,30 +36,35 @@ fn histories() {
     }
 }
 
-/// What A.2, A.5 and A.6 add and no answer shows by itself, in the order of the alphabet.
-const TO_BE_SEEN: [&str; 15] = [
+/// What A.2, A.5, A.6 and A.7 add and no answer shows by itself, in the order of the alphabet.
+const TO_BE_SEEN: [&str; 19] = [
     "13 before the resealing's 4",
     "13 for the older form",
     "13 though the nonce is used",
+    "3 for a session of the older form",
     "4 for a resealing that outgrows the half",
-    "8 for a session of the older form",
     "a part of 32,768 bytes resumed",
     "restarts carried over",
     "restarts set to 0",
     "the older form resealed",
     "updated from A.2's firmware to A.5's",
     "updated from A.2's firmware to A.6's",
+    "updated from A.2's firmware to A.7's",
     "updated from A.5's firmware to A.6's",
+    "updated from A.5's firmware to A.7's",
+    "updated from A.6's firmware to A.7's",
     "updated from document 01's firmware to A.2's",
     "updated from document 01's firmware to A.5's",
     "updated from document 01's firmware to A.6's",
+    "updated from document 01's firmware to A.7's",
 ];
 
-/// Every answer that the documents have for each call, 14 for a job buffer of a wrong length included.
+/// Every answer that the documents have for each call, 14 for a job buffer of a wrong length included, and those that a save
+/// gives whose starting tag is 48 bytes long, or whose session 16.
 fn every_answer() -> Vec<(Operation, u32)> {
     let answers: [(Operation, &[u32]); 5] = [
-        (Operation::FirstSave, &[0, 1, 2, 3, 4, 5, 14, 18]),
-        (Operation::Save, &[0, 1, 2, 3, 4, 6, 7, 8, 9, 10, 14, 18]),
+        (Operation::FirstSave, &[0, 1, 2, 3, 4, 5, 6, 8, 14, 18]),
+        (Operation::Save, &[0, 1, 2, 3, 4, 5, 6, 7, 8, 9, 10, 14, 18]),
         (Operation::PowerUp, &[0, 1, 2, 3, 4, 6, 7, 10, 11, 12, 13, 14]),
         (Operation::Look, &[0, 1, 2, 3, 6, 7, 11, 12]),
         (Operation::Advance, &[1, 2, 4, 14, 256, 257, 258]),
@@ -71,7 +76,7 @@ fn every_answer() -> Vec<(Operation, u32)> {
 
 fn generated(seed: u64) -> History {
     let mut random = Random::new(seed);
-    let firmware = random.pick(&[DOCUMENT_01, DOCUMENT_01, A_2, A_5, KEEPER, KEEPER, KEEPER, KEEPER]);
+    let firmware = random.pick(&[DOCUMENT_01, DOCUMENT_01, A_2, A_5, A_6, KEEPER, KEEPER, KEEPER, KEEPER]);
     let largest = firmware.form.empty() + 2 * firmware.part_limit;
     let setup = match random.below(60) {
         // Long checkpoints and memories of the largest size are slow, so they are few.
@@ -249,7 +254,7 @@ fn twist(random: &mut Random, setup: &Setup, operation: Operation) -> Twist {
             6 => Twist::PendingPage(random.pick(&[Left::Any(seed), Left::Records(seed)])),
             7..10 => Twist::NewestSession(random.pick(&[0, 1, 7, 8, 8, 9, 1 << 31]), packet(random)),
             10 => Twist::SessionWord(10 + random.below(2), random.pick(&[8, 9, random.clone().next() as u32])),
-            0 => Twist::SessionLength(random.pick(&[0, 24, 40, 47, 49, 64])),
+            0 => Twist::SessionLength(random.pick(&[0, 16, 24, 40, 47, 49, 64])),
             1 => Twist::SessionBit(random.below(384)),
             2 => {
                 Twist::SessionWord(random.below(2), random.pick(&[0, 1, pages as u32, slots as u32, u32::MAX, 1 << 31]))
@@ -326,7 +331,7 @@ fn any_twist(random: &mut Random, setup: &Setup, ring: usize, half: usize, room:
         5 => Twist::KeyLength(random.pick(&[0, 16, 24, 31, 33, 64])),
         6 => Twist::KeyBit(random.below(256)),
         7 => Twist::NonceLength(random.pick(&[0, 8, 11, 13, 16])),
-        8 => Twist::StartingTagLength(random.pick(&[0, 12, 15, 17, 32])),
+        8 => Twist::StartingTagLength(random.pick(&[0, 12, 15, 17, 32, 48])),
         9 | 10 => part_length(random, room),
         11 => Twist::StagingLength(random.pick(&[0, 1, half - 4, half - 1, half, half + 1])),
         12 => Twist::StateLength(random.pick(&[0, 1, older, newer - 4, newer - 1, newer, newer + 1])),

@@ -1,7 +1,7 @@
 //! Histories: what happens to a unit, event by event, and calls with something wrong among them.
 
 use crate::compare::{call, saw};
-use crate::firmware::{Firmware, A_2, A_5, DOCUMENT_01, KEEPER};
+use crate::firmware::{Firmware, A_2, A_5, A_6, DOCUMENT_01, KEEPER};
 use crate::layout::{half_of, read_ring, record, word, Checkpoint, Form, Newest, Reading};
 use crate::operations::*;
 use crate::random::Random;
@@ -140,10 +140,14 @@ impl Event {
                     saw(match (unit.firmware, firmware) {
                         (DOCUMENT_01, A_2) => "updated from document 01's firmware to A.2's",
                         (DOCUMENT_01, A_5) => "updated from document 01's firmware to A.5's",
-                        (DOCUMENT_01, _) => "updated from document 01's firmware to A.6's",
+                        (DOCUMENT_01, A_6) => "updated from document 01's firmware to A.6's",
+                        (DOCUMENT_01, _) => "updated from document 01's firmware to A.7's",
                         (A_2, A_5) => "updated from A.2's firmware to A.5's",
-                        (A_2, _) => "updated from A.2's firmware to A.6's",
-                        _ => "updated from A.5's firmware to A.6's",
+                        (A_2, A_6) => "updated from A.2's firmware to A.6's",
+                        (A_2, _) => "updated from A.2's firmware to A.7's",
+                        (A_5, A_6) => "updated from A.5's firmware to A.6's",
+                        (A_5, _) => "updated from A.5's firmware to A.7's",
+                        _ => "updated from A.6's firmware to A.7's",
                     });
                     unit.update(firmware);
                 }

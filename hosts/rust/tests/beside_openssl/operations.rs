@@ -1,5 +1,5 @@
-//! Document 01, "What the unit calls" and "Stops, by the place of checking", with document 02's A.2, A.5 and A.6: what each
-//! call of a firmware answers and leaves. Jobs and sessions are the bytes that the calls for C lay down.
+//! Document 01, "What the unit calls" and "Stops, by the place of checking", with document 02's A.2, A.5, A.6 and A.7: what
+//! each call of a firmware answers and leaves. Jobs and sessions are the bytes that the calls for C lay down.
 
 use crate::firmware::Firmware;
 use crate::layout::*;
@@ -30,6 +30,7 @@ pub struct Lent {
     pub open_len: usize,
 }
 
+/// From A.7 on the first two are one call, which is given `starting_tag` or `session`.
 #[derive(Clone, Copy, Debug, PartialEq, Eq, PartialOrd, Ord)]
 pub enum Operation {
     FirstSave,
@@ -47,8 +48,10 @@ pub const RESTORED: u32 = 258;
 /// What this firmware's call does: it answers 0 or the number of a stop, an advance 256, 257, 258 or the number of a stop.
 pub fn perform(firmware: Firmware, operation: Operation, lent: &mut Lent) -> u32 {
     let answer = match operation {
-        Operation::FirstSave => first_save(firmware, lent),
-        Operation::Save => save(firmware, lent),
+        Operation::FirstSave if firmware.one_save => one_save(firmware, &lent.starting_tag.clone(), lent),
+        Operation::Save if firmware.one_save => one_save(firmware, &lent.session.clone(), lent),
+        Operation::FirstSave => first_save(firmware, &lent.starting_tag.clone(), lent),
+        Operation::Save => save(firmware, &lent.session.clone(), lent),
         Operation::PowerUp => power_up(firmware, lent),
         Operation::Look => look(firmware, lent),
         Operation::Advance => advance(firmware, lent),
@@ -66,11 +69,21 @@ fn stop_if(condition: bool, number: u32) -> Result<(), u32> {
     }
 }
 
+/// A.7: "With a starting tag a ring that is not blank gives 5; with a session the checks are those of save." For C 16 bytes
+/// are a starting tag, 48 a session, and any other length gives 3.
+fn one_save(firmware: Firmware, from: &[u8], c: &mut Lent) -> Answer {
+    if from.len() == session_length(firmware.form) {
+        save(firmware, from, c)
+    } else {
+        first_save(firmware, from, c)
+    }
+}
+
 /// "First save: … Restarts 0, half A, page 0, slot 0." A.2: "A first save stores its number with restarts 0."
-fn first_save(firmware: Firmware, c: &mut Lent) -> Answer {
+fn first_save(firmware: Firmware, starting_tag: &[u8], c: &mut Lent) -> Answer {
     stop_if(ring_size_wrong(c.pages, c.slots, &c.ring), 1)?;
     stop_if(fram_size_wrong(firmware, &c.fram), 2)?;
-    stop_if(c.key.len() != 32 || c.nonce.len() != 12 || c.starting_tag.len() != 16, 3)?;
+    stop_if(c.key.len() != 32 || c.nonce.len() != 12 || starting_tag.len() != 16, 3)?;
     stop_if(parts_wrong(firmware, c) || staging_short(c), 4)?;
     stop_if(packet_wrong(firmware, c), 18)?;
     stop_if(!blank(&c.ring), 5)?;
@@ -81,7 +94,7 @@ fn first_save(firmware: Firmware, c: &mut Lent) -> Answer {
         open_part: c.open_part.clone(),
         secret: c.secret.clone(),
         restarts: 0,
-        previous_tag: c.starting_tag[..].try_into().unwrap(),
+        previous_tag: starting_tag.try_into().unwrap(),
         nonce: c.nonce[..].try_into().unwrap(),
     };
     start(c, Origin::Save, &checkpoint, None, 0, (0, 0));
@@ -91,14 +104,14 @@ fn first_save(firmware: Firmware, c: &mut Lent) -> Answer {
 /// "Save: a session besides. Restarts 0; the half the newest record does not name; the next target; previous tag from
 /// the session." A.2: "a save brings the packet number it last heard … Above the session's number it sets restarts to 0;
 /// otherwise restarts carry over, and the larger number is stored."
-fn save(firmware: Firmware, c: &mut Lent) -> Answer {
+fn save(firmware: Firmware, session: &[u8], c: &mut Lent) -> Answer {
     stop_if(ring_size_wrong(c.pages, c.slots, &c.ring), 1)?;
     stop_if(fram_size_wrong(firmware, &c.fram), 2)?;
     stop_if(c.key.len() != 32 || c.nonce.len() != 12, 3)?;
     stop_if(parts_wrong(firmware, c) || staging_short(c), 4)?;
     stop_if(packet_wrong(firmware, c), 18)?;
     let newest = newest_record(c)?;
-    let session = Session::from_bytes(firmware.form, &c.session).ok_or(8u32)?;
+    let session = Session::from_bytes(firmware.form, session).ok_or(8u32)?;
     stop_if((session.page, session.slot, session.record) != (newest.page, newest.slot, newest.record), 8)?;
     stop_if(session.restarts > 8 || session.packet > LARGEST_PACKET, 8)?;
     stop_if(newest.pending.is_some(), 9)?;

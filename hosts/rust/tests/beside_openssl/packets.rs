@@ -159,8 +159,8 @@ fn a_session_out_of_range() {
         assert_eq!(tried(Operation::Save, &unit, |c| (held(c, restarts, packet), c.nonce[11] -= 1).0), 8);
         assert_eq!(tried(Operation::PowerUp, &unit, |c| held(c, restarts, packet)), DONE);
     }
-    // A session of document 01's firmware is 40 bytes.
-    assert_eq!(tried(Operation::Save, &unit, |c| c.session.truncate(40)), 8);
+    // A session of document 01's firmware is 40 bytes: by A.7 neither a session nor a starting tag.
+    assert_eq!(tried(Operation::Save, &unit, |c| c.session.truncate(40)), 3);
 }
 
 /// A save with a session of 8 restarts and no newer packet stores the 8: the next power-up gives 13.

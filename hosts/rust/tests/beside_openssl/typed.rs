@@ -14,12 +14,13 @@ struct Memories {
 impl Memories {
     fn first_save(&mut self, nonce: [u8; 12]) -> Result<Job, Stop> {
         let Memories { ring, fram, staging } = self;
-        first_save(SIZES, ring, fram, &KEY, &nonce, &[4; 16], 20, b"volume 3", b"t=10", staging)
+        let first = Follows::StartingTag(&[4; 16]);
+        save(SIZES, ring, fram, &KEY, &nonce, first, 20, b"volume 3", b"t=10", staging)
     }
 
     fn save(&mut self, nonce: [u8; 12], session: &Session, packet: u32) -> Result<Job, Stop> {
         let Memories { ring, fram, staging } = self;
-        save(SIZES, ring, fram, &KEY, &nonce, session, packet, b"volume 4", b"t=11", staging)
+        save(SIZES, ring, fram, &KEY, &nonce, Follows::Session(session), packet, b"volume 4", b"t=11", staging)
     }
 
     /// Advances to the end, keeping the job as bytes between the stores; the answer and how many stores it took.

@@ -235,8 +235,8 @@ impl Unit {
         if older_form {
             check(stopped(answer), || format!("the session is of the older form, and a save answers {answer}"))?;
             self.lent.session = buffer;
-            if answer == 8 {
-                saw("8 for a session of the older form");
+            if answer == 3 {
+                saw("3 for a session of the older form");
             }
         }
         if !stopped(answer) {

@@ -1,7 +1,7 @@
 -- `trace::starts::start` meets its contract: the word's kind picks the start. Assumes nothing.
 use mathlib.Core.Path.{sym, _∙_}
 use borrow.Author.Needs.{needs}
-use Rattle.trace.proofs.Starting.{starts-first, starts-save, starts-power-up}
+use Rattle.trace.proofs.Starting.{starts-first, starts-next, starts-power-up}
 use Rattle.trace.proofs.starts.start.Statement.{statement}
 use Rattle.trace.proofs.starts.start.Tie as tie
 
@@ -11,7 +11,7 @@ returns c =
     let valued = called .before .before in
     let test = valued .before .before in
     let a = test .before .before .before .before .args in
-    starts-first _ _ (a .held) (a .w) _ _ _ _ (valued .value .ensures .0) (sym (test .kind .ensures) ∙ valued .before .if1 .taken) (called .start-first-save .ensures)
+    starts-first _ _ (a .held) (a .w) _ _ _ _ (valued .value .ensures .0) (sym (test .kind .ensures) ∙ valued .before .if1 .taken) (called .start-first .ensures)
 
 returns-2 : tie.Need-returns-2
 returns-2 c =
@@ -20,8 +20,8 @@ returns-2 c =
     let again = valued .before .before in
     let test = again .before .before in
     let a = test .before .before .before .before .args in
-    starts-save _ _ (a .held) (a .w) _ _ _ _ (valued .value2 .ensures .0) (λ e. again .before .if1 .left (test .kind .ensures ∙ e))
-    (sym (again .kind2 .ensures) ∙ valued .before .if2 .taken) (called .start-save .ensures)
+    starts-next _ _ (a .held) (a .w) _ _ _ _ (valued .value2 .ensures .0) (λ e. again .before .if1 .left (test .kind .ensures ∙ e))
+    (sym (again .kind2 .ensures) ∙ valued .before .if2 .taken) (called .start-next .ensures)
 
 returns-3 : tie.Need-returns-3
 returns-3 c =
