@@ -155,8 +155,8 @@ uint32_t keeper_save(size_t pages, size_t slots, const uint8_t *ring, size_t rin
  * writes the job that stores it. `state` then holds plaintext; it may be used once keeper_advance has answered KEEPER_RESTORED, and is the
  * caller's to wipe. A checkpoint of the older form has packet number 0 and is sealed anew in the longer form, 4 bytes longer; where that does
  * not fit the half, the power-up gives 4 after 10.
- * On 6 make a first save; on 10 call again with a new nonce, a few times at most; on any other stop sound the alert. After 7, 11, 12, 13 and
- * that 4 only erasing the whole ring and a first save go on, and the state is lost.
+ * On 6 save with a starting tag; on 10 call again with a new nonce, a few times at most; on any other stop sound the alert. After 7, 11, 12,
+ * 13 and that 4 only erasing the whole ring and a save with a starting tag go on, and the state is lost.
  * Stops: 1 to 4, 6, 7, 11 to 13, 10, 4 again, 14 (the job buffer is not 64 bytes). Cost: one reading of the ring; the checkpoint is hashed
  * once, decrypted once and sealed once.
  */

@@ -4,7 +4,6 @@ use jobs::Origin;
 use jobs::Phase;
 use jobs::Session;
 use jobs::no_job;
-use jobs::no_session;
 use octets::copy_at;
 use octets::limits::NONCE_LENGTH;
 use octets::limits::TAG_LENGTH;

@@ -77,6 +77,3 @@ view-started a staging = record { answer = view-start (a .start); job = view-job
 
 abbrev pub advances : ℕ → ℕ → Job → List ℕ → calls.Advances
 advances pages slots job staging = record { sizes = calls.sizes pages slots; job = view-job job; staging = staging }
-
-abbrev pub save-arguments : ℕ → ℕ → List ℕ → List ℕ → ℕ → List ℕ → List ℕ → List ℕ → calls.SaveArguments
-save-arguments pages slots key nonce packet open-part secret staging = record { sizes = calls.sizes pages slots; key = key; nonce = nonce; packet = packet; open-part = open-part; secret = secret; staging = staging }

@@ -11,7 +11,8 @@ use Rattle.ring.specs.Ring.{half-named, newest-record, target-page, target-slot
 use Rattle.protocol.specs.Types.{Firmware, Words, Save}
 use Rattle.protocol.specs.Calls.{From, from-tag, from-session, SaveArguments, saves, Setup}
 use Rattle.protocol.specs.Operations.{key-wrong, nonce-wrong, newest-in, from-wrong, number-from, restarts-from, previous-tag, save-checkpoint, save-target, ring-lines, save-stop, Begin, begin, job-of, save}
-use Rattle.protocol.specs.History.{State, is-stop, refused, begun, left-by}
+use Rattle.protocol.specs.Journal.{saved-from, entered}
+use Rattle.protocol.specs.History.{State, is-stop, refused, begun, left-by, HandedOut, Keeps}
 use Rattle.protocol.specs.Entries.{FirstSave, NextSave, first-checkpoint, next-checkpoint, first-save-stop, first-save, next-save-stop, next-save, as-first, as-next, Same, InLists, OneSave}
 
 module _ (firmware : Firmware) (ring fram : List ℕ) where
@@ -42,12 +43,16 @@ same : (firmware : Firmware) (ring fram : List ℕ) → Same firmware ring fram
 same firmware ring fram = record { first = first-same firmware ring fram; next = next-same firmware ring fram; either = λ a. either (a .arguments) (a .from) }
 
 in-lists : (u : Setup) (s : State) → InLists u s
-unfolding refused left-by
+unfolding refused left-by HandedOut Keeps entered saved-from
 in-lists u s = record {
   first-refused = λ a. ap (λ (b : Begin). is-stop (b .answer)) (first-same (s .firmware) (s .ring) (s .fram) a);
   first-leaves = λ a j. ap (λ (b : Begin). begun s (b .answer) b (a .arguments .nonce) j) (first-same (s .firmware) (s .ring) (s .fram) a);
+  first-keeps = λ a. (λ k. (k .0, k .1, k .2), λ k. (k .0, k .1, k .2, tt));
+  first-entered = λ a form j stopped. refl;
   next-refused = λ a. ap (λ (b : Begin). is-stop (b .answer)) (next-same (s .firmware) (s .ring) (s .fram) a);
   next-leaves = λ a j. ap (λ (b : Begin). begun s (b .answer) b (a .arguments .nonce) j) (next-same (s .firmware) (s .ring) (s .fram) a);
+  next-keeps = λ a. (λ k. k, λ k. k);
+  next-entered = λ a form j stopped. refl;
 }
 
 pub one-save : OneSave

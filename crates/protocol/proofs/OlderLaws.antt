@@ -9,8 +9,7 @@ use Rattle.stops.proofs.Laws.{passes, skipped, same-line, last-skipped, or-fals
 use Rattle.checkpoint.specs.Checkpoint.{Older, own-tag, sealed-length}
 use Rattle.checkpoint.specs.Half.{open-length, secret-length, good-head}
 use Rattle.checkpoint.proofs.StoredLaws.{head-facts}
-use Rattle.protocol.specs.Operations.{packet-wrong, session-wrong, written-number, save-restarts, outgrows, parts-wrong, state-wrong, job-wrong, newest-in, newest-half, resumed, half-lines, power-up-stop, look-stop, advance-stop}
-use Rattle.protocol.specs.Entries.{first-checkpoint, next-checkpoint, first-save-stop, next-save-stop}
+use Rattle.protocol.specs.Operations.{packet-wrong, session-wrong, written-number, save-restarts, outgrows, parts-wrong, state-wrong, job-wrong, newest-in, newest-half, from-wrong, number-from, restarts-from, previous-tag, save-checkpoint, resumed, ring-lines, save-stop, half-lines, power-up-stop, look-stop, advance-stop}
 use Rattle.protocol.specs.Older.{OlderIs}
 
 -- a checkpoint in its own form does not outgrow its half
@@ -19,11 +18,11 @@ unfolding outgrows
 never-outgrows limit half g = le-ltb (length half) (sealed-length Older (open-length Older half) (secret-length Older half)) (head-facts limit Older half g .fits)
 
 pub older-is : OlderIs
-unfolding OlderIs first-save-stop next-save-stop half-lines power-up-stop look-stop advance-stop packet-wrong session-wrong parts-wrong state-wrong job-wrong first-checkpoint next-checkpoint resumed written-number save-restarts
+unfolding OlderIs save-stop from-wrong ring-lines half-lines power-up-stop look-stop advance-stop packet-wrong session-wrong parts-wrong state-wrong job-wrong save-checkpoint number-from restarts-from previous-tag resumed written-number save-restarts
 older-is = (
   λ ring fram. record {
     first-save = λ a. skipped (_ ∷ _ ∷ _ ∷ _ ∷ []) (_ ∷ []) 18;
-    save = λ a. skipped (_ ∷ _ ∷ _ ∷ _ ∷ []) _ 18 ∙ same-line (_ ∷ _ ∷ _ ∷ _ ∷ _ ∷ _ ∷ []) _ 8 _ _ (or-false _);
+    save = λ a. skipped (_ ∷ _ ∷ _ ∷ _ ∷ []) _ 18 ∙ same-line (_ ∷ _ ∷ []) _ 3 _ _ (or-false _) ∙ same-line (_ ∷ _ ∷ _ ∷ _ ∷ _ ∷ _ ∷ []) _ 8 _ _ (or-false _);
     power-up = λ a. last-skipped (_ ∷ _ ∷ _ ∷ _ ∷ _ ∷ _ ∷ _ ∷ _ ∷ _ ∷ _ ∷ []) 4 _ (λ e.
         never-outgrows 4096 (newest-half ring fram (a .sizes .slots) (newest-in ring (a .sizes))) (not-false _ (passes _ e .1 .1 .1 .1 .1 .1 .1 .0)));
     look = λ a. refl;

@@ -2,10 +2,10 @@
 -- that the one save answers and leaves what they do.
 use Prim.Native.Nat.{ℕ, _-_}
 use mathlib.Core.Path.{_≡_}
-use mathlib.Core.Bool.{not, _||_}
+use mathlib.Core.Bool.{Bool, not, cond, _||_}
 use mathlib.Core.Option.{Option}
-use mathlib.Core.List.{List, [], _∷_}
-use mathlib.Core.Logic.{_⊎_}
+use mathlib.Core.List.{List, [], _∷_, List·Memᴰ}
+use mathlib.Core.Logic.{_↔_, _⊎_}
 use lib.ListN.{length}
 use Rattle.octets.specs.Octets.{blank}
 use Rattle.stops.specs.Stops.{first-of}
@@ -15,8 +15,8 @@ use Rattle.checkpoint.specs.Checkpoint.{Form, Checkpoint}
 use Rattle.protocol.specs.Types.{Firmware, Words, Save, Session}
 use Rattle.protocol.specs.Calls.{from-tag, from-session, SaveArguments, Saves, saves, Setup, saved}
 use Rattle.protocol.specs.Operations.{key-wrong, nonce-wrong, tag-wrong, newest-in, parts-wrong, staging-wrong, packet-wrong, stale, session-wrong, Begin, begin, job-of, written-number, save-restarts, larger, save}
-use Rattle.protocol.specs.Journal.{Journal}
-use Rattle.protocol.specs.History.{State, is-stop, refused, begun, left-by}
+use Rattle.protocol.specs.Journal.{Journal, first-draft, drafted, saved-entry, entered}
+use Rattle.protocol.specs.History.{State, is-stop, refused, begun, left-by, Keeps}
 
 -- ---- the entries
 
@@ -105,14 +105,30 @@ pub record Same (firmware : Firmware) (ring fram : List ℕ) : Type 0 where
   -- and there is no other save
   pub either : (a : Saves) → ((b : FirstSave) × (a ≡ as-first b)) ⊎ ((b : NextSave) × (a ≡ as-next b))
 
--- a list of the theorem Recovery in which older firmware saves: each of its calls is refused and leaves what its entry did
+-- document 01's rules for them, in a list of calls and power losses
+abbrev pub FirstKeeps : Setup → State → FirstSave → Type 0
+FirstKeeps u s a = (a .arguments .sizes ≡ u .sizes) × (a .arguments .key ≡ u .key) × (List·Memᴰ (a .arguments .nonce) (s .nonces) → ⊥)
+
+abbrev pub NextKeeps : Setup → State → NextSave → Type 0
+NextKeeps u s a =
+    (a .arguments .sizes ≡ u .sizes) × (a .arguments .key ≡ u .key) × (List·Memᴰ (a .arguments .nonce) (s .nonces) → ⊥)
+    × (List·Memᴰ (a .session) (s .sessions))
+
+-- a list of the theorem Recovery in which older firmware saves: each of its saves is refused exactly where its entry stops, keeps the rules exactly
+-- where that does, leaves what that leaves, and the journal sees it as document 01's book does
 pub record InLists (u : Setup) (s : State) : Type 0 where
   pub first-refused : (a : FirstSave) → refused s (saved (as-first a)) ≡ is-stop (first-save (s .firmware) (s .ring) (s .fram) a .answer)
   pub first-leaves : (a : FirstSave) (j : Journal) → left-by u s (saved (as-first a)) j
       ≡ (let b = first-save (s .firmware) (s .ring) (s .fram) a in begun s (b .answer) b (a .arguments .nonce) j)
+  pub first-keeps : (a : FirstSave) → Keeps u s (saved (as-first a)) ↔ FirstKeeps u s a
+  pub first-entered : (a : FirstSave) (form : Form) (j : Journal) (stopped : Bool)
+      → entered u form j (saved (as-first a)) stopped ≡ cond stopped j (drafted (u .key) (u .sizes .slots) Save (first-draft form (a .arguments) (a .starting-tag)) 0 j)
   pub next-refused : (a : NextSave) → refused s (saved (as-next a)) ≡ is-stop (next-save (s .firmware) (s .ring) (s .fram) a .answer)
   pub next-leaves : (a : NextSave) (j : Journal) → left-by u s (saved (as-next a)) j
       ≡ (let b = next-save (s .firmware) (s .ring) (s .fram) a in begun s (b .answer) b (a .arguments .nonce) j)
+  pub next-keeps : (a : NextSave) → Keeps u s (saved (as-next a)) ↔ NextKeeps u s a
+  pub next-entered : (a : NextSave) (form : Form) (j : Journal) (stopped : Bool)
+      → entered u form j (saved (as-next a)) stopped ≡ cond stopped j (saved-entry form (u .key) (a .arguments) (j .entry) j (u .sizes .slots))
 
 -- any firmware, with any memories
 unfoldable pub OneSave : Type 0

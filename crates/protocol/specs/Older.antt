@@ -1,4 +1,5 @@
 -- The operations of `first-firmware` are document 01's: its lists of stops, written out as its table has them, its limits included, and its checkpoints.
+-- Its first save and save are the one save with a starting tag and with a session.
 use Prim.Native.Nat.{ℕ, _+_, _%_}
 use mathlib.Core.Path.{_≡_}
 use mathlib.Core.Bool.{Bool, not, _||_}
@@ -14,8 +15,8 @@ use Rattle.checkpoint.specs.Checkpoint.{Older, Checkpoint, head-words, part-wro
 use Rattle.checkpoint.specs.Half.{stored-restarts, good-head, good-tag}
 use Rattle.protocol.specs.Types.{first-firmware}
 use Rattle.protocol.specs.Calls.{SaveArguments, PowersUp, Looks, Advances}
-use Rattle.protocol.specs.Operations.{key-wrong, nonce-wrong, tag-wrong, newest-in, newest-half, staging-wrong, stale, phase-wrong, resumed, power-up-stop, look-stop, advance-stop}
-use Rattle.protocol.specs.Entries.{FirstSave, NextSave, first-checkpoint, next-checkpoint, first-save-stop, next-save-stop}
+use Rattle.protocol.specs.Operations.{key-wrong, nonce-wrong, tag-wrong, newest-in, newest-half, staging-wrong, stale, phase-wrong, save-checkpoint, resumed, save-stop, power-up-stop, look-stop, advance-stop}
+use Rattle.protocol.specs.Entries.{FirstSave, NextSave, as-first, as-next}
 
 -- stop 4 of both parts: the checkpoint is 44 bytes and both parts
 abbrev pub wrong-parts : List ℕ → SaveArguments → Bool
@@ -23,13 +24,13 @@ wrong-parts fram a =
     part-wrong 4096 (a .open-part) || part-wrong 4096 (a .secret) || ltb (half-length fram) (44 + length (a .open-part) + length (a .secret)) || staging-wrong (a .staging) fram
 
 pub record OlderStops (ring fram : List ℕ) : Type 0 where
-  pub first-save : (a : FirstSave) → first-save-stop first-firmware ring fram a ≡ first-of (
+  pub first-save : (a : FirstSave) → save-stop first-firmware ring fram (as-first a) ≡ first-of (
       (1, ring-wrong (a .arguments .sizes .pages) (a .arguments .sizes .slots) ring) ∷
       (2, fram-wrong 131072 fram) ∷
       (3, key-wrong (length (a .arguments .key)) || nonce-wrong (length (a .arguments .nonce)) || tag-wrong (length (a .starting-tag))) ∷
       (4, wrong-parts fram (a .arguments)) ∷
       (5, not (blank ring)) ∷ [])
-  pub save : (a : NextSave) → let n = newest-in ring (a .arguments .sizes) in next-save-stop first-firmware ring fram a ≡ first-of (
+  pub save : (a : NextSave) → let n = newest-in ring (a .arguments .sizes) in save-stop first-firmware ring fram (as-next a) ≡ first-of (
       (1, ring-wrong (a .arguments .sizes .pages) (a .arguments .sizes .slots) ring) ∷
       (2, fram-wrong 131072 fram) ∷
       (3, key-wrong (length (a .arguments .key)) || nonce-wrong (length (a .arguments .nonce))) ∷
@@ -75,8 +76,8 @@ older open-part secret restarts previous nonce =
 pub record OlderCheckpoints : Type 0 where
   pub head : (packet open-words secret-words restarts : ℕ) → head-words Older packet open-words secret-words restarts ≡ (1, open-words) ∷ (2, secret-words) ∷ (3, restarts) ∷ []
   pub long : (m n : ℕ) → sealed-length Older m n ≡ 44 + m + n
-  pub first-save : (a : FirstSave) → first-checkpoint Older a ≡ older (a .arguments .open-part) (a .arguments .secret) 0 (a .starting-tag) (a .arguments .nonce)
-  pub save : (a : NextSave) → next-checkpoint Older a ≡ older (a .arguments .open-part) (a .arguments .secret) 0 (a .session .tag) (a .arguments .nonce)
+  pub first-save : (a : FirstSave) → save-checkpoint Older (as-first a) ≡ older (a .arguments .open-part) (a .arguments .secret) 0 (a .starting-tag) (a .arguments .nonce)
+  pub save : (a : NextSave) → save-checkpoint Older (as-next a) ≡ older (a .arguments .open-part) (a .arguments .secret) 0 (a .session .tag) (a .arguments .nonce)
   pub power-up : (key nonce : List ℕ) (c : Checkpoint) → c .packet ≡ 0 → resumed Older key nonce c ≡ older (c .open-part) (c .secret) (c .restarts + 1) (own-tag key c) nonce
 
 unfoldable pub OlderIs : Type 0

@@ -19,7 +19,7 @@ pub record Firmware : Type 0 where
   pub largest-fram : ℕ
   pub fits-word : longest-part ≤ part-most
 
--- document 01's, those of document 02's A.2 and A.5, and that of A.6, which is the code's
+-- document 01's, those of document 02's A.2 and A.5, and that of A.6 and A.7, which is the code's
 abbrev pub first-firmware : Firmware
 first-firmware = record { form = Older; order = NonceFirst; longest-part = older-part-limit; largest-fram = older-fram-limit; fits-word = lit≤ tt }
 

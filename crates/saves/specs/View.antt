@@ -1,8 +1,9 @@
--- What a save is given to follow stands for (document 02, A.7).
+-- What a save is given, and what it is given to follow, stand for (document 02, A.7).
 use Prim.Native.Nat.{ℕ}
 use mathlib.Core.Bool.{cond}
 use mathlib.Core.List.{List, []}
-use lib.ListN.{length}
+use lib.ListN.{length, replicate}
+use Rattle.octets.specs.Limits.{tag-length}
 use Rattle.protocol.specs.Types as types
 use Rattle.protocol.specs.Calls as calls
 use Rattle.protocol.specs.Operations.{tag-wrong}
@@ -15,6 +16,10 @@ use Rattle.saves.specs.declared.types.From.{From}
 abbrev pub whole-tag : List ℕ → List ℕ
 whole-tag tag = cond (tag-wrong (length tag)) [] tag
 
+-- what the struct's array then holds
+abbrev pub kept-tag : List ℕ → List ℕ
+kept-tag tag = cond (tag-wrong (length tag)) (replicate tag-length 0) tag
+
 abbrev pub view-given : Given → List ℕ → types.Session → calls.From
 view-given StartingTag tag session = calls.from-tag tag
 view-given Session tag session = calls.from-session session
@@ -22,3 +27,6 @@ view-given WrongTag tag session = calls.from-tag []
 
 abbrev pub view-from : From → calls.From
 view-from f = view-given (f .given) (f .tag) (view-session (f .session))
+
+abbrev pub save-arguments : ℕ → ℕ → List ℕ → List ℕ → ℕ → List ℕ → List ℕ → List ℕ → calls.SaveArguments
+save-arguments pages slots key nonce packet open-part secret staging = record { sizes = calls.sizes pages slots; key = key; nonce = nonce; packet = packet; open-part = open-part; secret = secret; staging = staging }

@@ -7,14 +7,16 @@ use jobs::no_session;
 use octets::limits::TAG_LENGTH;
 use octets::sixteen;
 ghost use mathlib.Core.Path.{_≡_};
+ghost use lib.ListN.{replicate};
+ghost use Rattle.octets.specs.Limits.{tag-length};
 ghost use Rattle.protocol.specs.Calls.{from-tag, from-session};
-ghost use Rattle.protocol.specs.Operations.{from-wrong};
+ghost use Rattle.protocol.specs.Operations.{from-wrong, no-session};
 ghost use Rattle.jobs.specs.View.{view-session};
-ghost use Rattle.saves.specs.View.{whole-tag, view-from};
+ghost use Rattle.saves.specs.View.{whole-tag, kept-tag, view-from};
 
 // A starting tag, 16 random bytes, for the unit's first checkpoint. Of any other length it is stop 3 of the save that gets it.
 pub fn from_tag(tag: &[u8]) -> From
-    ensures { λ r. ⌜ view-from r ≡ from-tag (whole-tag (now (tag .entry))) ⌝ }
+    ensures { λ r. ⌜ (view-from r ≡ from-tag (whole-tag (now (tag .entry)))) × (r .tag ≡ kept-tag (now (tag .entry))) × (view-session (r .session) ≡ no-session) ⌝ }
 {
     let session = no_session();
     if tag_wrong(tag.len()) {
@@ -35,7 +37,7 @@ pub fn from_tag(tag: &[u8]) -> From
 
 // The session that the last advance of a save or a power-up answered.
 pub fn from_session(session: Session) -> From
-    ensures { λ r. ⌜ view-from r ≡ from-session (view-session session) ⌝ }
+    ensures { λ r. ⌜ (view-from r ≡ from-session (view-session session)) × (r .tag ≡ replicate tag-length 0) × (view-session (r .session) ≡ view-session session) ⌝ }
 {
     let given = Given::Session;
     let tag = [0u8; TAG_LENGTH];

@@ -34,7 +34,6 @@ ghost use mathlib.Core.List.{List, []};
 ghost use Prim.Native.Nat.{ℕ, _≤_};
 ghost use lib.ListN.{length};
 ghost use Rattle.octets.specs.Limits.{key-length, nonce-length, part-limit, restart-limit, packet-limit, tag-length};
-ghost use Rattle.octets.specs.Octets.{blank};
 ghost use Rattle.stops.specs.Stops.{first-of};
 ghost use Rattle.stops.specs.View.{check-number, stop-number};
 ghost use Rattle.ring.specs.Ring.{ring-wrong, Within};
@@ -43,9 +42,9 @@ ghost use Rattle.checkpoint.specs.Checkpoint.{Longer, sealed-length, checkpoint
 ghost use Rattle.protocol.specs.Types.{Words, Save, this-firmware};
 ghost use Rattle.protocol.specs.Calls.{from-tag, from-session, saves};
 ghost use Rattle.protocol.specs.Operations.{begin, job-of, parts-wrong, session-wrong, save-restarts, larger, save-stop, save};
-ghost use Rattle.jobs.specs.View.{view-session, view-started, save-arguments};
+ghost use Rattle.jobs.specs.View.{view-session, view-started};
 ghost use Rattle.jobs.specs.Stages.{stopped};
-ghost use Rattle.saves.specs.View.{view-from};
+ghost use Rattle.saves.specs.View.{view-from, save-arguments};
 ghost use Rattle.saves.specs.Stages.{save-buffers, first-lines, next-lines};
 
 // Stop 4 of both parts.

@@ -12,7 +12,8 @@ use Rattle.octets.specs.Octets.{blank, bytes}
 use Rattle.protocol.specs.Types as types
 use Rattle.protocol.specs.Calls.{From, from-session, saves}
 use Rattle.protocol.specs.Operations.{Begin, no-job, save, power-up}
-use Rattle.jobs.specs.View.{view-job, view-session, view-start, view-started, save-arguments}
+use Rattle.jobs.specs.View.{view-job, view-session, view-start, view-started}
+use Rattle.saves.specs.View.{save-arguments}
 use Rattle.jobs.specs.declared.types.Started.{Started}
 use Rattle.keeper.specs.View.{view-powered-up, powers-up}
 use Rattle.keeper.specs.declared.types.PoweredUp.{PoweredUp}

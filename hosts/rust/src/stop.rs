@@ -11,13 +11,14 @@ pub enum Stop {
     RingSize = 1,
     /// 2: the length of the FRAM, or of an image to export or import, wrong.
     FramSize,
-    /// 3: key not 32, nonce not 12 or tag not 16 bytes.
+    /// 3: key not 32, nonce not 12 or tag not 16 bytes; of [`calls::save`](crate::calls::save), `from` neither 16 bytes nor
+    /// 48.
     KeyNonceTagSize,
     /// 4: a part not a multiple of 4 bytes, above 32,768, or the checkpoint longer than a half; staging, state, output or
     /// an export's text buffer too short; text or associated data above 65,536 bytes; a checkpoint of the older form that
     /// does not fit its half in the longer one.
     BufferSize,
-    /// 5: the ring is not blank.
+    /// 5: the ring is not blank, and the save has a starting tag.
     RingInUse,
     /// 6: the ring is wholly blank.
     RingBlank,
@@ -85,7 +86,9 @@ impl Stop {
         match self {
             Stop::RingSize => "pages, slots or ring length wrong",
             Stop::FramSize => "FRAM or image length wrong",
-            Stop::KeyNonceTagSize => "key not 32, nonce not 12 or tag not 16 bytes",
+            Stop::KeyNonceTagSize => {
+                "key not 32, nonce not 12 or tag not 16 bytes; or a save that follows neither 16 nor 48"
+            }
             Stop::BufferSize => {
                 "a part not a multiple of 4 bytes, above 32,768, or the checkpoint longer than a half; \
                  staging, state, output or text buffer too short; text or associated data above 65,536"

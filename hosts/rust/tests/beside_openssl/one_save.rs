@@ -100,8 +100,12 @@ fn the_entries_before_it() {
         |c| c.session[5] ^= 1,
         |c| c.job.truncate(56),
     ];
+    let mut unreadable = saved(1);
+    unreadable.ring[64] = 0;
+    let mut pending = saved(2);
+    pending.ring[0] = 0;
     let mut answers = BTreeSet::new();
-    for unit in (0..9).map(saved).chain([lent(3, 2, 128)]) {
+    for unit in (0..9).map(saved).chain([lent(3, 2, 128), unreadable, pending]) {
         for operation in [Operation::FirstSave, Operation::Save] {
             for change in changes {
                 let mut older = unit.clone();
@@ -118,6 +122,6 @@ fn the_entries_before_it() {
     let of =
         |operation| answers.iter().filter(|(of, _)| *of == operation).map(|(_, answer)| *answer).collect::<Vec<_>>();
     assert_eq!(of(Operation::FirstSave), [0, 1, 2, 3, 4, 5, 14, 18]);
-    assert_eq!(of(Operation::Save), [0, 1, 2, 3, 4, 6, 8, 10, 14, 18]);
+    assert_eq!(of(Operation::Save), [0, 1, 2, 3, 4, 6, 7, 8, 9, 10, 14, 18]);
     assert!(KEEPER.one_save && !A_6.one_save);
 }

@@ -4,7 +4,8 @@ use borrow.Author.Needs.{needs}
 use Rattle.protocol.specs.Types.{this-firmware}
 use Rattle.protocol.specs.Calls.{From, saves}
 use Rattle.protocol.specs.Operations.{save-stop, save}
-use Rattle.jobs.specs.View.{view-start, save-arguments}
+use Rattle.jobs.specs.View.{view-start}
+use Rattle.saves.specs.View.{save-arguments}
 use Rattle.keeper_c.specs.Calls.{saves-in}
 use Rattle.keeper_c.proofs.StartLaws.{save-bad, save-good, no-length}
 use Rattle.keeper_c.proofs.FromLaws.{stops-alike, saves-alike}

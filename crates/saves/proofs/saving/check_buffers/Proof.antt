@@ -5,8 +5,7 @@ use lib.ListN.{length}
 use borrow.Author.Needs.{needs}
 use Rattle.checkpoint.specs.Fram.{half-length}
 use Rattle.protocol.specs.Operations.{staging-wrong}
-use Rattle.jobs.specs.View.{save-arguments}
-use Rattle.saves.specs.View.{view-from}
+use Rattle.saves.specs.View.{view-from, save-arguments}
 use Rattle.saves.proofs.Laws.{buffers-tried}
 use Rattle.saves.proofs.saving.check_buffers.Statement.{statement}
 use Rattle.saves.proofs.saving.check_buffers.Tie as tie

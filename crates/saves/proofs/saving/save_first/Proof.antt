@@ -5,7 +5,7 @@ use borrow.Author.Needs.{needs}
 use Rattle.stops.specs.Stops.{first-of}
 use Rattle.stops.specs.View.{check-number}
 use Rattle.protocol.specs.Calls.{from-tag, SaveArguments}
-use Rattle.jobs.specs.View.{save-arguments}
+use Rattle.saves.specs.View.{save-arguments}
 use Rattle.saves.specs.Stages.{first-lines}
 use Rattle.saves.proofs.Laws.{Buffers, buffers-pass, right-tag, on-first, save-stops, first-begins}
 use Rattle.saves.proofs.saving.save_first.Statement.{statement}

@@ -13,7 +13,8 @@ use Rattle.ring.proofs.NewestLaws.{newest-half-fits}
 use Rattle.checkpoint.specs.Checkpoint.{Longer}
 use Rattle.protocol.specs.Types.{Session}
 use Rattle.protocol.specs.Calls.{from-session, SaveArguments}
-use Rattle.jobs.specs.View.{view-session, save-arguments}
+use Rattle.jobs.specs.View.{view-session}
+use Rattle.saves.specs.View.{save-arguments}
 use Rattle.saves.specs.Stages.{next-lines}
 use Rattle.protocol.proofs.Saves.{larger-small, restarts-small}
 use Rattle.saves.proofs.Laws.{Buffers, buffers-pass, lines-read, on-next, session-in-range, save-stops, next-begins}

@@ -7,8 +7,8 @@ use Rattle.stops.specs.View.{check-number}
 use Rattle.protocol.specs.Types.{this-firmware}
 use Rattle.protocol.specs.Calls.{From, SaveArguments, saves}
 use Rattle.protocol.specs.Operations.{save}
-use Rattle.jobs.specs.View.{view-session, save-arguments}
-use Rattle.saves.specs.View.{view-given, view-from}
+use Rattle.jobs.specs.View.{view-session}
+use Rattle.saves.specs.View.{view-given, view-from, save-arguments}
 use Rattle.saves.specs.declared.types.Given.{Given}
 use Rattle.saves.specs.Stages.{save-buffers}
 use Rattle.saves.proofs.Laws.{Buffers, buffers-pass, buffers-stop, save-stops, no-wrong-tag}

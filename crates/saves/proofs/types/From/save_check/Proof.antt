@@ -6,8 +6,8 @@ use Rattle.stops.specs.Stops.{first-of}
 use Rattle.stops.specs.View.{check-number}
 use Rattle.ring.specs.Ring.{Newest}
 use Rattle.protocol.specs.Calls.{SaveArguments}
-use Rattle.jobs.specs.View.{view-session, save-arguments}
-use Rattle.saves.specs.View.{view-given, view-from}
+use Rattle.jobs.specs.View.{view-session}
+use Rattle.saves.specs.View.{view-given, view-from, save-arguments}
 use Rattle.saves.specs.declared.types.Given.{Given}
 use Rattle.saves.specs.Stages.{save-buffers, next-lines}
 use Rattle.saves.proofs.Laws.{Buffers, buffers-pass, buffers-stop, on-first, on-next, no-wrong-tag}
