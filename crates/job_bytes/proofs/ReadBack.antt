@@ -205,36 +205,48 @@ pub record FitsSession (s : Session) : Type 0 where
   pub restarts : s .restarts < 2 ^ 32
   pub packet : s .packet < 2 ^ 32
 
--- the bytes of a session are 48
-pub session-long : (s : Session) → FitsSession s → length (session-bytes s) ≡ session-length
-unfolding session-bytes
-session-long s fits =
-    let two = word-of (s .page) ++ word-of (s .slot) in
-    let three = two ++ s .latest in
-    let four = three ++ s .tag in
-    let l2 = longer (word-of (s .page)) 4 (s .slot) (length-bytes 4 (s .page)) in
-    let l3 : length three ≡ 24 = length-append two (s .latest) ∙ ap₂ (λ (x y : ℕ). x + y) l2 (fits .latest) in
-    let l4 : length four ≡ 40 = length-append three (s .tag) ∙ ap₂ (λ (x y : ℕ). x + y) l3 (fits .tag) in
-    longer (four ++ word-of (s .restarts)) 44 (s .packet) (longer four 40 (s .restarts) l4)
+module _ (s : Session) (fits : FitsSession s) where
+  abbrev one : List ℕ
+  one = word-of (s .page)
 
--- the bytes of a session are read as that session
-pub session-back : (s : Session) → FitsSession s → session-in (session-bytes s) ≡ s
-unfolding session-bytes word-at
-session-back s fits =
-    let one = word-of (s .page) in
-    let two = one ++ word-of (s .slot) in
-    let three = two ++ s .latest in
-    let l1 = length-bytes 4 (s .page) in
-    let l2 = longer one 4 (s .slot) l1 in
-    let four = three ++ s .tag in
-    let five = four ++ word-of (s .restarts) in
-    let last = s .restarts ∷ s .packet ∷ [] in
-    let l3 : length three ≡ 24 = length-append two (s .latest) ∙ ap₂ (λ (x y : ℕ). x + y) l2 (fits .latest) in
-    let l4 : length four ≡ 40 = length-append three (s .tag) ∙ ap₂ (λ (x y : ℕ). x + y) l3 (fits .tag) in
-    let l5 = longer four 40 (s .restarts) l4 in
-    sym (read-session (chain four last) (s .page) (s .slot) (s .latest) (s .tag) (s .restarts) (s .packet)
-    (sym (stays four last 0 (omega (arith, l4)) ∙ word-left three (s .tag) 0 (omega (arith, l3)) ∙ word-left two (s .latest) 0 (omega (arith, l2)) ∙ stays one (s .slot ∷ []) 0 (omega (arith, l1)) ∙ number-bytes 4 (s .page) (fits .page)))
-    (sym (stays four last 4 (omega (arith, l4)) ∙ word-left three (s .tag) 4 (omega (arith, l3)) ∙ word-left two (s .latest) 4 (omega (arith, l2)) ∙ next one [] 4 (s .slot) l1 (fits .slot)))
-    (sym (part-stays four last 8 slot-length (omega (arith, l4)) ∙ part-append-left three (s .tag) 8 slot-length (omega (arith, l3)) ∙ part-append-right two (s .latest) 8 slot-length 0 (omega (arith, l2)) ∙ part-whole (s .latest) slot-length (fits .latest)))
-    (sym (part-stays four last 24 tag-length (omega (arith, l4)) ∙ part-append-right three (s .tag) 24 tag-length 0 (omega (arith, l3)) ∙ part-whole (s .tag) tag-length (fits .tag)))
-    (sym (next four (s .packet ∷ []) 40 (s .restarts) l4 (fits .restarts))) (sym (next five [] 44 (s .packet) l5 (fits .packet))))
+  abbrev two : List ℕ
+  two = one ++ word-of (s .slot)
+
+  abbrev three : List ℕ
+  three = two ++ s .latest
+
+  abbrev four : List ℕ
+  four = three ++ s .tag
+
+  abbrev five : List ℕ
+  five = four ++ word-of (s .restarts)
+
+  l2 : length two ≡ 8
+  l2 = longer one 4 (s .slot) (length-bytes 4 (s .page))
+
+  l3 : length three ≡ 24
+  l3 = length-append two (s .latest) ∙ ap₂ (λ (x y : ℕ). x + y) l2 (fits .latest)
+
+  l4 : length four ≡ 40
+  l4 = length-append three (s .tag) ∙ ap₂ (λ (x y : ℕ). x + y) l3 (fits .tag)
+
+  l5 : length five ≡ 44
+  l5 = longer four 40 (s .restarts) l4
+
+  -- the bytes of a session are 48
+  pub session-long : length (session-bytes s) ≡ session-length
+  unfolding session-bytes
+  session-long = longer five 44 (s .packet) l5
+
+  -- and they are read as that session
+  pub session-back : session-in (session-bytes s) ≡ s
+  unfolding session-bytes word-at
+  session-back =
+      let l1 = length-bytes 4 (s .page) in
+      let last = s .restarts ∷ s .packet ∷ [] in
+      sym (read-session (chain four last) (s .page) (s .slot) (s .latest) (s .tag) (s .restarts) (s .packet)
+      (sym (stays four last 0 (omega (arith, l4)) ∙ word-left three (s .tag) 0 (omega (arith, l3)) ∙ word-left two (s .latest) 0 (omega (arith, l2)) ∙ stays one (s .slot ∷ []) 0 (omega (arith, l1)) ∙ number-bytes 4 (s .page) (fits .page)))
+      (sym (stays four last 4 (omega (arith, l4)) ∙ word-left three (s .tag) 4 (omega (arith, l3)) ∙ word-left two (s .latest) 4 (omega (arith, l2)) ∙ next one [] 4 (s .slot) l1 (fits .slot)))
+      (sym (part-stays four last 8 slot-length (omega (arith, l4)) ∙ part-append-left three (s .tag) 8 slot-length (omega (arith, l3)) ∙ part-append-right two (s .latest) 8 slot-length 0 (omega (arith, l2)) ∙ part-whole (s .latest) slot-length (fits .latest)))
+      (sym (part-stays four last 24 tag-length (omega (arith, l4)) ∙ part-append-right three (s .tag) 24 tag-length 0 (omega (arith, l3)) ∙ part-whole (s .tag) tag-length (fits .tag)))
+      (sym (next four (s .packet ∷ []) 40 (s .restarts) l4 (fits .restarts))) (sym (next five [] 44 (s .packet) l5 (fits .packet))))

@@ -1,4 +1,4 @@
--- The view, with the array and the session that the struct holds beside it, is one to one. Assumes nothing.
+-- What the struct stands for by which of the two it was given; and that the view, with the struct's array and session, is one to one. Assumes nothing.
 use Prim.Native.Nat.{ℕ}
 use mathlib.Core.Path.{_≡_, refl, ap}
 use mathlib.Core.List.{List, []}
@@ -12,6 +12,9 @@ use Rattle.saves.specs.View.{view-given, view-from}
 use Rattle.saves.specs.declared.types.Given.{Given}
 use Rattle.saves.specs.declared.types.Given.the-variants.{StartingTag, Session, WrongTag}
 use Rattle.saves.specs.declared.types.From.{From}
+
+pub given-is : (f : From) {g : Given} → f .given ≡ g → view-from f ≡ view-given g (f .tag) (view-session (f .session))
+given-is f e = ap (λ (g : Given). view-given g (f .tag) (view-session (f .session))) e
 
 -- the struct's array has 16 bytes
 given-one : (x y : Given) (t t′ : List ℕ) (s s′ : types.Session) → length t ≡ tag-length → length t′ ≡ tag-length → view-given x t s ≡ view-given y t′ s′ → x ≡ y

@@ -28,5 +28,6 @@ view-given WrongTag tag session = calls.from-tag []
 abbrev pub view-from : From → calls.From
 view-from f = view-given (f .given) (f .tag) (view-session (f .session))
 
+-- what a save is given besides
 abbrev pub save-arguments : ℕ → ℕ → List ℕ → List ℕ → ℕ → List ℕ → List ℕ → List ℕ → calls.SaveArguments
 save-arguments pages slots key nonce packet open-part secret staging = record { sizes = calls.sizes pages slots; key = key; nonce = nonce; packet = packet; open-part = open-part; secret = secret; staging = staging }

@@ -11,6 +11,7 @@ use Rattle.jobs.specs.View.{view-session}
 use Rattle.saves.specs.View.{view-given, view-from, save-arguments}
 use Rattle.saves.specs.declared.types.Given.{Given}
 use Rattle.saves.specs.Stages.{save-buffers}
+use Rattle.saves.proofs.ViewLaws.{given-is}
 use Rattle.saves.proofs.Laws.{Buffers, buffers-pass, buffers-stop, save-stops, no-wrong-tag}
 use Rattle.saves.proofs.types.From.save.Statement.{statement}
 use Rattle.saves.proofs.types.From.save.Tie as tie
@@ -20,10 +21,6 @@ start c = c .before .before .before .before .before .before .before .before .bef
 
 abbrev call : tie.After-check-buffers → SaveArguments
 call c = let a = start c .args in save-arguments (a .pages) (a .slots) (a .key .now) (a .nonce .now) (a .packet) (a .«open» .now) (a .secret .now) (a .staging .now)
-
--- what the save follows, by which of the two it was given
-follows : (c : tie.After-check-buffers) {g : Given} → start c .args .self .given ≡ g → view-from (start c .args .self) ≡ view-given g (start c .args .self .tag) (view-session (start c .args .self .session))
-follows c e = ap (λ (g : Given). view-given g (start c .args .self .tag) (view-session (start c .args .self .session))) e
 
 buffers-none : (c : tie.After-enum-told) → let b = c .before .before in first-of (save-buffers (start b .args .ring .now) (start b .args .fram .now) (call b) (view-from (start b .args .self))) ≡ none
 buffers-none c = sym (c .before .before .check-buffers .ensures) ∙ ap check-number (c .enum-told .given .1)
@@ -36,7 +33,7 @@ passes-with : (c : tie.After-enum-told) {g : Given} → let b = c .before .befor
     → first-of (save-buffers (start b .args .ring .now) (start b .args .fram .now) (call b) (view-given g (start b .args .self .tag) (view-session (start b .args .self .session)))) ≡ none
 passes-with c e =
     let b = c .before .before in
-    subst (λ (f : From). first-of (save-buffers (start b .args .ring .now) (start b .args .fram .now) (call b) f) ≡ none) (follows b e) (buffers-none c)
+    subst (λ (f : From). first-of (save-buffers (start b .args .ring .now) (start b .args .fram .now) (call b) f) ≡ none) (given-is (start b .args .self) e) (buffers-none c)
 
 save-first-requires : tie.Need-save-first-requires
 save-first-requires c κs = passes-with (c .before .before .before .before) (c .before .before .enum-told2 .given .1)
@@ -55,18 +52,18 @@ returns-2 : tie.Need-returns-2
 returns-2 c =
     let b = c .before .before .before .before .before .before .before .before .before in
     c .before .before .save-first .ensures
-    ∙ ap (λ (f : From). save this-firmware (start b .args .ring .now) (start b .args .fram .now) (saves (call b) f)) (sym (follows b (c .before .before .before .before .before .enum-told2 .given .1)))
+    ∙ ap (λ (f : From). save this-firmware (start b .args .ring .now) (start b .args .fram .now) (saves (call b) f)) (sym (given-is (start b .args .self) (c .before .before .before .before .before .enum-told2 .given .1)))
 
 returns-3 : tie.Need-returns-3
 returns-3 c =
     let b = c .before .before .before .before .before .before .before .before in
     c .before .before .save-next .ensures
-    ∙ ap (λ (f : From). save this-firmware (start b .args .ring .now) (start b .args .fram .now) (saves (call b) f)) (sym (follows b (c .before .before .before .before .enum-told3 .given .1)))
+    ∙ ap (λ (f : From). save this-firmware (start b .args .ring .now) (start b .args .fram .now) (saves (call b) f)) (sym (given-is (start b .args .self) (c .before .before .before .before .enum-told3 .given .1)))
 
 returns-4 : tie.Need-returns-4
 returns-4 c =
     let told = c .before .before .before in
-    no-wrong-tag _ (follows (told .before .before) (c .before .enum-told4 .given .1)) (buffers told .from-right)
+    no-wrong-tag _ (given-is (start (told .before .before) .args .self) (c .before .enum-told4 .given .1)) (buffers told .from-right)
 
 pub save-spec : {M : Type 1} → statement M
 save-spec =

@@ -7,9 +7,9 @@ use Rattle.stops.specs.View.{check-number}
 use Rattle.ring.specs.Ring.{Newest}
 use Rattle.protocol.specs.Calls.{SaveArguments}
 use Rattle.jobs.specs.View.{view-session}
-use Rattle.saves.specs.View.{view-given, view-from, save-arguments}
-use Rattle.saves.specs.declared.types.Given.{Given}
+use Rattle.saves.specs.View.{view-from, save-arguments}
 use Rattle.saves.specs.Stages.{save-buffers, next-lines}
+use Rattle.saves.proofs.ViewLaws.{given-is}
 use Rattle.saves.proofs.Laws.{Buffers, buffers-pass, buffers-stop, on-first, on-next, no-wrong-tag}
 use Rattle.saves.proofs.types.From.save_check.Statement.{statement}
 use Rattle.saves.proofs.types.From.save_check.Tie as tie
@@ -19,10 +19,6 @@ start c = c .before .before .before .before .before .before .before .before
 
 abbrev call : tie.After-check-buffers → SaveArguments
 call c = let a = start c .args in save-arguments (a .pages) (a .slots) (a .key .now) (a .nonce .now) (a .packet) (a .«open» .now) (a .secret .now) (a .staging .now)
-
--- what the save follows, by which of the two it was given
-follows : (c : tie.After-check-buffers) {g : Given} → start c .args .self .given ≡ g → view-from (start c .args .self) ≡ view-given g (start c .args .self .tag) (view-session (start c .args .self .session))
-follows c e = ap (λ (g : Given). view-given g (start c .args .self .tag) (view-session (start c .args .self .session))) e
 
 buffers-none : (c : tie.After-enum-told) → let b = c .before .before in first-of (save-buffers (start b .args .ring .now) (start b .args .fram .now) (call b) (view-from (start b .args .self))) ≡ none
 buffers-none c = sym (c .before .before .check-buffers .ensures) ∙ ap check-number (c .enum-told .given .1)
@@ -40,7 +36,7 @@ returns-2 c =
     let told = c .before .before .before in
     let b = told .before .before in
     let a = start b .args in
-    c .check-first .ensures ∙ sym (on-first (a .ring .now) (a .fram .now) (call b) (a .self .tag) _ (follows b (c .before .enum-told2 .given .1)) (buffers-none told))
+    c .check-first .ensures ∙ sym (on-first (a .ring .now) (a .fram .now) (call b) (a .self .tag) _ (given-is (start b .args .self) (c .before .enum-told2 .given .1)) (buffers-none told))
 
 returns-3 : tie.Need-returns-3
 returns-3 c =
@@ -48,12 +44,12 @@ returns-3 c =
     let b = told .before .before in
     let a = start b .args in
     c .check-next .ensures ∙ ap (λ (n : Newest). first-of (next-lines (a .ring .now) (a .slots) n (view-session (a .self .session)) (a .nonce .now))) (c .before .read-ring .ensures .0)
-    ∙ sym (on-next (a .ring .now) (a .fram .now) (call b) (view-session (a .self .session)) _ (follows b (c .before .before .enum-told3 .given .1)) (buffers-none told))
+    ∙ sym (on-next (a .ring .now) (a .fram .now) (call b) (view-session (a .self .session)) _ (given-is (start b .args .self) (c .before .before .enum-told3 .given .1)) (buffers-none told))
 
 returns-4 : tie.Need-returns-4
 returns-4 c =
     let told = c .before .before in
-    no-wrong-tag _ (follows (told .before .before) (c .enum-told4 .given .1)) (buffers told .from-right)
+    no-wrong-tag _ (given-is (start (told .before .before) .args .self) (c .enum-told4 .given .1)) (buffers told .from-right)
 
 pub save-check-spec : {M : Type 1} → statement M
 save-check-spec =

@@ -4,9 +4,7 @@ use borrow.Author.Needs.{needs}
 use lib.ListN.{length}
 use Rattle.octets.specs.Limits.{tag-length}
 use Rattle.protocol.specs.Operations.{from-wrong}
-use Rattle.jobs.specs.View.{view-session}
-use Rattle.saves.specs.View.{view-given}
-use Rattle.saves.specs.declared.types.Given.{Given}
+use Rattle.saves.proofs.ViewLaws.{given-is}
 use Rattle.saves.proofs.Laws.{tag-right}
 use Rattle.saves.proofs.types.From.wrong.Statement.{statement}
 use Rattle.saves.proofs.types.From.wrong.Tie as tie
@@ -16,19 +14,19 @@ returns c =
     let start = c .before .before in
     let f = start .args .self in
     let long : length (f .tag) ≡ tag-length = search (needs, start .good) in
-    sym (ap (λ (g : Given). from-wrong (view-given g (f .tag) (view-session (f .session)))) (c .enum-told .given .1) ∙ tag-right (f .tag) long)
+    sym (ap from-wrong (given-is f (c .enum-told .given .1)) ∙ tag-right (f .tag) long)
 
 returns-2 : tie.Need-returns-2
 unfolding from-wrong
 returns-2 c =
     let f = c .before .before .args .self in
-    sym (ap (λ (g : Given). from-wrong (view-given g (f .tag) (view-session (f .session)))) (c .enum-told2 .given .1))
+    sym (ap from-wrong (given-is f (c .enum-told2 .given .1)))
 
 returns-3 : tie.Need-returns-3
 unfolding from-wrong
 returns-3 c =
     let f = c .before .before .args .self in
-    sym (ap (λ (g : Given). from-wrong (view-given g (f .tag) (view-session (f .session)))) (c .enum-told3 .given .1))
+    sym (ap from-wrong (given-is f (c .enum-told3 .given .1)))
 
 pub wrong-spec : {M : Type 1} → statement M
 wrong-spec = tie.close (tie.spec (λ c. search needs) (λ c. search needs) (λ c. search needs) returns returns-2 returns-3)
