@@ -18,6 +18,13 @@ fn saved(saves: usize) -> Lent {
     unit
 }
 
+/// One with a ring that is not readable.
+fn unreadable() -> Lent {
+    let mut unit = saved(1);
+    unit.ring[64] = 0;
+    unit
+}
+
 /// The answer to a save that is given these bytes to follow, whichever they are.
 fn following(unit: &Lent, from: &[u8]) -> u32 {
     tried(Operation::Save, unit, |c| c.session = from.to_vec())
@@ -100,12 +107,10 @@ fn the_entries_before_it() {
         |c| c.session[5] ^= 1,
         |c| c.job.truncate(56),
     ];
-    let mut unreadable = saved(1);
-    unreadable.ring[64] = 0;
     let mut pending = saved(2);
     pending.ring[0] = 0;
     let mut answers = BTreeSet::new();
-    for unit in (0..9).map(saved).chain([lent(3, 2, 128), unreadable, pending]) {
+    for unit in (0..9).map(saved).chain([lent(3, 2, 128), unreadable(), pending]) {
         for operation in [Operation::FirstSave, Operation::Save] {
             for change in changes {
                 let mut older = unit.clone();
@@ -123,4 +128,24 @@ fn the_entries_before_it() {
         |operation| answers.iter().filter(|(of, _)| *of == operation).map(|(_, answer)| *answer).collect::<Vec<_>>();
     assert_eq!(of(Operation::FirstSave), [0, 1, 2, 3, 4, 5, 14, 18]);
     assert_eq!(of(Operation::Save), [0, 1, 2, 3, 4, 6, 7, 8, 9, 10, 14, 18]);
+}
+
+/// The answers of A.6's entry and of the one save, on a blank ring, one in use and one that is not readable.
+fn answers(operation: Operation, change: fn(&mut Lent)) -> [(u32, u32); 3] {
+    [lent(3, 2, 128), saved(3), unreadable()].map(|mut unit| {
+        change(&mut unit);
+        (perform(A_6, operation, &mut unit.clone()), answer(operation, &mut unit))
+    })
+}
+
+/// Where they differ, for C: 16 bytes of a session are a starting tag, a session of another length gives 3, where it gave
+/// 6, 7 or 8, and a starting tag of 48 bytes is a session.
+#[test]
+fn lengths_that_are_not_the_entrys() {
+    assert_eq!(answers(Operation::Save, |_| ()), [(6, 6), (0, 0), (7, 7)]);
+    assert_eq!(answers(Operation::Save, |c| c.session.truncate(16)), [(6, 0), (8, 5), (7, 5)]);
+    assert_eq!(answers(Operation::Save, |c| c.session.truncate(40)), [(6, 3), (8, 3), (7, 3)]);
+    assert_eq!(answers(Operation::FirstSave, |_| ()), [(0, 0), (5, 5), (5, 5)]);
+    assert_eq!(answers(Operation::FirstSave, |c| c.starting_tag.resize(48, 0)), [(3, 6), (3, 8), (3, 7)]);
+    assert_eq!(answers(Operation::FirstSave, |c| c.starting_tag.truncate(15)), [(3, 3); 3]);
 }
