@@ -1,6 +1,6 @@
 //! Random histories under demand 3. `HISTORIES=n SEED=s cargo test histories` runs n of them from seed s on. One that
-//! fails is made smaller, event by event and number by number, and printed. In more than half of them the unit has an older
-//! firmware up to some cut.
+//! fails is made smaller, event by event and number by number, and printed. In some the unit begins with an older firmware,
+//! which it has up to a cut, or to the end.
 
 use crate::compare::{ANSWERS, SEEN};
 use crate::firmware::{Firmware, A_2, A_5, A_6, DOCUMENT_01, KEEPER};

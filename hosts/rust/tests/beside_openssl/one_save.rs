@@ -141,7 +141,7 @@ fn answers(operation: Operation, change: fn(&mut Lent)) -> [(u32, u32); 3] {
 /// Where they differ, for C: 16 bytes of a session are a starting tag, a session of another length gives 3, where it gave
 /// 6, 7 or 8, and a starting tag of 48 bytes is a session.
 #[test]
-fn lengths_that_are_not_the_entrys() {
+fn buffers_of_other_lengths() {
     assert_eq!(answers(Operation::Save, |_| ()), [(6, 6), (0, 0), (7, 7)]);
     assert_eq!(answers(Operation::Save, |c| c.session.truncate(16)), [(6, 0), (8, 5), (7, 5)]);
     assert_eq!(answers(Operation::Save, |c| c.session.truncate(40)), [(6, 3), (8, 3), (7, 3)]);
