@@ -1,4 +1,4 @@
-/* AES-256-GCM by BearSSL. run.sh compiles it twice, and with FAST_NAMES defined it takes the second set of names. */
+/* AES-128-GCM and AES-256-GCM by BearSSL. run.sh compiles it twice, and with FAST_NAMES defined it takes the second set of names. */
 #ifdef FAST_NAMES
 #define bear_ct64 fast_ct64
 #define bear_big32 fast_big32
@@ -16,25 +16,25 @@ static br_aes_big_ctr_keys big;
 
 void bear_small(void)
 {
-    br_aes_small_ctr_init(&small, key, 32);
+    br_aes_small_ctr_init(&small, key, key_len);
     br_gcm_init(&gcm, &small.vtable, br_ghash_ctmul32);
 }
 
 void bear_ct64(void)
 {
-    br_aes_ct64_ctr_init(&ct64, key, 32);
+    br_aes_ct64_ctr_init(&ct64, key, key_len);
     br_gcm_init(&gcm, &ct64.vtable, br_ghash_ctmul64);
 }
 
 void bear_big32(void)
 {
-    br_aes_big_ctr_init(&big, key, 32);
+    br_aes_big_ctr_init(&big, key, key_len);
     br_gcm_init(&gcm, &big.vtable, br_ghash_ctmul32);
 }
 
 void bear_big64(void)
 {
-    br_aes_big_ctr_init(&big, key, 32);
+    br_aes_big_ctr_init(&big, key, key_len);
     br_gcm_init(&gcm, &big.vtable, br_ghash_ctmul64);
 }
 

@@ -11,7 +11,9 @@ struct size {
 /* The largest part of a checkpoint, and the associated data of the largest checkpoint: its head and open part. */
 enum { LARGEST_PART = 32768, LARGEST_AAD = 32 + LARGEST_PART };
 
-/* Sealing turns text into sealed and tag, opening turns sealed into opened if the tag is right. */
+/* Sealing turns text into sealed and tag, opening turns sealed into opened if the tag is right. The key's first key_len bytes are used: 16 for
+   AES-128, 32 for AES-256. */
+extern size_t key_len;
 extern uint8_t key[32], nonce[12], aad[LARGEST_AAD], text[LARGEST_PART], sealed[LARGEST_PART], opened[LARGEST_PART], tag[16];
 
 /* The pieces of bearssl.c, with BearSSL as Debian compiles it, and as run.sh does. */

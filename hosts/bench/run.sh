@@ -14,7 +14,8 @@ missing=
 for p in $packages; do
     dpkg-query -W -f '${Status}' $p 2>/dev/null | grep -q 'ok installed' || missing="$missing $p"
 done
-[ -z "$missing" ] || apt-get install -y -qq --no-upgrade $missing >$work/apt.log 2>&1 || { cat $work/apt.log >&2; exit 1; }
+install() { apt-get install -y -qq --no-upgrade $missing; }
+[ -z "$missing" ] || { install || { apt-get update -qq && install; }; } >$work/apt.log 2>&1 || { cat $work/apt.log >&2; exit 1; }
 lib=$(dirname "$(dpkg -L libbearssl-dev | grep '/libbearssl\.a$')")
 
 # BearSSL once more, compiled for speed from Debian's source, all but the functions of bearssl.c made local to one object.

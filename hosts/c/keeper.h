@@ -10,7 +10,8 @@
  *   Pointers to numbers are aligned; byte buffers need no alignment.
  * - A buffer or number that a call writes overlaps no other argument of the call (so no sealing or opening in place), and nobody else, no
  *   interrupt and no DMA, touches an argument while the call runs.
- * - One key, one number of pages and slots and one FRAM length for the unit's life.
+ * - One key, one number of pages and slots and one FRAM length for the unit's life. The key is 16 bytes, for AES-128, or 32, for AES-256;
+ *   which of the two is not stored, and a key of the other length is another key.
  * - A nonce is used up once a start or keeper_seal answered 0 with it, even if its job is never finished. It must never be used again under
  *   the same key, over all restarts.
  * - One job at a time: a start drops the job before it, which must not be advanced any more. Staging stays as the start left it until the
@@ -61,7 +62,7 @@ enum keeper_answer {
     KEEPER_DONE = 0,
     KEEPER_RING_SIZE = 1,           /* pages, slots or the ring's length wrong */
     KEEPER_FRAM_SIZE = 2,           /* the length of the FRAM, or of an image to export or import, wrong */
-    KEEPER_KEY_NONCE_TAG_SIZE = 3,  /* key not 32, nonce not 12 or tag not 16 bytes; save: `from` neither 16 bytes nor 48 */
+    KEEPER_KEY_NONCE_TAG_SIZE = 3,  /* key neither 16 nor 32, nonce not 12 or tag not 16 bytes; save: `from` neither 16 bytes nor 48 */
     KEEPER_BUFFER_SIZE = 4,         /* a part not a multiple of 4 bytes, above 32,768, or the checkpoint longer than a half; staging, state,
                                        output or a text buffer too short; a session buffer to be written not 48 bytes; text or associated data
                                        above 65,536; power-up, after 10: a checkpoint of the older form does not fit its half in the
@@ -91,7 +92,8 @@ enum keeper_answer {
 };
 
 enum keeper_size {
-    KEEPER_KEY_SIZE = 32,
+    KEEPER_KEY_SIZE_128 = 16,       /* a key for AES-128 */
+    KEEPER_KEY_SIZE_256 = 32,       /* a key for AES-256 */
     KEEPER_NONCE_SIZE = 12,
     KEEPER_TAG_SIZE = 16,
     KEEPER_SLOT_SIZE = 16,
@@ -116,9 +118,10 @@ enum keeper_size {
  *    8  the record, 16 bytes                                                44  its packet number
  */
 
-/* Sealing: AES-256-GCM with a nonce of 12 bytes and a tag of 16. Text and associated data are 0 to 65,536 bytes each. Writes text_len bytes
- * to `out`, which is at least as long, nothing after them, and the tag.
- * Stops: 3 (also a tag buffer that is not 16 bytes), 4. Cost: a key schedule and a set-up of GHASH, then each block of 16 bytes once.
+/* Sealing: AES-128-GCM with a key of 16 bytes, AES-256-GCM with one of 32, a nonce of 12 bytes and a tag of 16. Text and associated data are 0
+ * to 65,536 bytes each. Writes text_len bytes to `out`, which is at least as long, nothing after them, and the tag.
+ * Stops: 3 (also a tag buffer that is not 16 bytes), 4. Cost: a key schedule and a set-up of GHASH, then each block of 16 bytes once, in 10
+ * rounds with a key of 16 bytes and 14 with one of 32.
  */
 uint32_t keeper_seal(const uint8_t *key, size_t key_len, const uint8_t *nonce, size_t nonce_len,
                      const uint8_t *aad, size_t aad_len, const uint8_t *text, size_t text_len,

@@ -1,12 +1,19 @@
 /* A firmware's main loop over the keeper: power up or save for the first time, make one store each turn, save when the state has changed,
  * and sound the alert on a stop. The board is simulated: its chips outlive a restart, its RAM does not, and the supply fails after a number
  * of turns that main() chooses. The radio hears packets, newer ones or repeats of the last.
+ *
+ * The board's chip holds a key of 32 bytes; compile with -DKEY_SIZE=16 for one that holds 16. A unit keeps the one it has.
  */
 #include <stdbool.h>
 #include <stdio.h>
 #include <string.h>
 
 #include "keeper.h"
+
+#ifndef KEY_SIZE
+#define KEY_SIZE KEEPER_KEY_SIZE_256
+#endif
+_Static_assert(KEY_SIZE == KEEPER_KEY_SIZE_128 || KEY_SIZE == KEEPER_KEY_SIZE_256, "a key that the keeper takes");
 
 /* ---- the unit's state: the volume is open, the out-of-range timer is secret */
 
@@ -58,7 +65,7 @@ static struct {
     uint8_t session[KEEPER_SESSION_SIZE];
 } ram;
 
-static void device_key(uint8_t key[KEEPER_KEY_SIZE]) { memset(key, 0x42, KEEPER_KEY_SIZE); }
+static void device_key(uint8_t key[KEY_SIZE]) { memset(key, 0x42, KEY_SIZE); }
 
 /* Bytes that never come again, over all restarts. A unit draws them from its random generator; a counter in RAM would begin anew with every
  * restart. This board counts in a chip, so that the output is always the same.
@@ -97,7 +104,7 @@ static void make_durable(const uint8_t *job) {
 
 /* A save that follows a starting tag or a session. */
 static uint32_t save_from(const uint8_t *from, size_t from_len) {
-    uint8_t key[KEEPER_KEY_SIZE], nonce[KEEPER_NONCE_SIZE];
+    uint8_t key[KEY_SIZE], nonce[KEEPER_NONCE_SIZE];
     uint32_t r;
     int nonces = 0;
     device_key(key);
@@ -129,7 +136,7 @@ static uint32_t save(void) {
 
 /* Every restart begins here. On a blank ring the unit saves for the first time. */
 static uint32_t begin(void) {
-    uint8_t key[KEEPER_KEY_SIZE], nonce[KEEPER_NONCE_SIZE];
+    uint8_t key[KEY_SIZE], nonce[KEEPER_NONCE_SIZE];
     uint32_t r;
     int nonces = 0;
     memcpy(ram.ring, chips.ring, sizeof ram.ring);
@@ -149,7 +156,7 @@ static uint32_t begin(void) {
  * another firmware.
  */
 static uint32_t resume(void) {
-    uint8_t key[KEEPER_KEY_SIZE];
+    uint8_t key[KEY_SIZE];
     uint32_t restarts = 0;
     size_t open_start = 0, open_len = 0;
     device_key(key);

@@ -4,10 +4,12 @@
  *
  * - of the product of blocks, GHASH and the comparison of tags nothing may be reported, whatever both operands hold;
  * - of the calls that the unit makes, with key, starting tag, parts and stored bytes undefined, nothing but the look-ups in AES's tables,
- *   which aes_tables.supp names, and where a checkpoint is opened one jump: whether the tag is right, which the answer tells anyway;
+ *   which aes_tables.supp names, and where a checkpoint is opened one jump: whether the tag is right, which the answer tells anyway; with
+ *   keys of 16 bytes and of 32;
  * - of a multiplication whose fold is a branch, and of a comparison with an early way out, something must be, or this test could not fail.
  *
- * Numbers of bytes, ring, nonce and the words of a head are no secrets. A conditional move is no jump, and memcheck does not report it.
+ * Numbers of bytes, the key's too, ring, nonce and the words of a head are no secrets. A conditional move is no jump, and memcheck does not
+ * report it.
  */
 #include <stdbool.h>
 #include <stdint.h>
@@ -238,7 +240,8 @@ static void early_comparisons(void)
 
 enum { PAGES = 3, SLOTS = 2, RING = PAGES * SLOTS * KEEPER_SLOT_SIZE, HALF = 256, OPEN = 40, SECRET = 60, CHECKPOINT = 48 + OPEN + SECRET };
 
-static uint8_t key[32], nonce[12], starting_tag[16], open_part[OPEN], secret[SECRET], right_secret[SECRET];
+static size_t key_len;
+static uint8_t key[KEEPER_KEY_SIZE_256], nonce[12], starting_tag[16], open_part[OPEN], secret[SECRET], right_secret[SECRET];
 static uint8_t ring[RING], fram[2 * HALF], staging[HALF], state[KEEPER_STATE_SIZE], job[KEEPER_JOB_SIZE], session[KEEPER_SESSION_SIZE];
 
 /* Runs the job to its end. */
@@ -256,15 +259,16 @@ static void advances(uint32_t end)
 static void first_save(void)
 {
     memset(ring, 0xff, RING);
-    fill(key, 32);
+    memset(nonce, 0, 12);
+    fill(key, key_len);
     fill(secret, SECRET);
     memcpy(right_secret, secret, SECRET);
-    undefined(key, 32);
+    undefined(key, key_len);
     undefined(starting_tag, 16);
     undefined(open_part, OPEN);
     undefined(secret, SECRET);
-    need(answer(keeper_save(PAGES, SLOTS, ring, RING, fram, sizeof fram, key, 32, nonce, 12, starting_tag, 16, 1, open_part, OPEN, secret,
-                            SECRET, staging, HALF, job, sizeof job)) == KEEPER_DONE,
+    need(answer(keeper_save(PAGES, SLOTS, ring, RING, fram, sizeof fram, key, key_len, nonce, 12, starting_tag, 16, 1, open_part, OPEN,
+                            secret, SECRET, staging, HALF, job, sizeof job)) == KEEPER_DONE,
          "stopped");
     advances(KEEPER_SAVED);
 }
@@ -272,8 +276,8 @@ static void first_save(void)
 static void save(void)
 {
     nonce[0]++;
-    need(answer(keeper_save(PAGES, SLOTS, ring, RING, fram, sizeof fram, key, 32, nonce, 12, session, sizeof session, 2, open_part, OPEN, secret,
-                            SECRET, staging, HALF, job, sizeof job)) == KEEPER_DONE,
+    need(answer(keeper_save(PAGES, SLOTS, ring, RING, fram, sizeof fram, key, key_len, nonce, 12, session, sizeof session, 2, open_part,
+                            OPEN, secret, SECRET, staging, HALF, job, sizeof job)) == KEEPER_DONE,
          "stopped");
     advances(KEEPER_SAVED);
 }
@@ -282,7 +286,7 @@ static void look(void)
 {
     uint32_t restarts;
     size_t start, len;
-    need(answer(keeper_look(PAGES, SLOTS, ring, RING, fram, sizeof fram, key, 32, &restarts, &start, &len)) == KEEPER_DONE, "stopped");
+    need(answer(keeper_look(PAGES, SLOTS, ring, RING, fram, sizeof fram, key, key_len, &restarts, &start, &len)) == KEEPER_DONE, "stopped");
     need(restarts == 0 && start == HALF + 32 && len == OPEN, "another checkpoint");
 }
 
@@ -290,7 +294,7 @@ static void power_up(void)
 {
     size_t len;
     nonce[0]++;
-    need(answer(keeper_power_up(PAGES, SLOTS, ring, RING, fram, sizeof fram, key, 32, nonce, 12, staging, HALF, state, sizeof state, job,
+    need(answer(keeper_power_up(PAGES, SLOTS, ring, RING, fram, sizeof fram, key, key_len, nonce, 12, staging, HALF, state, sizeof state, job,
                                 sizeof job, &len)) == KEEPER_DONE,
          "stopped");
     result(state, SECRET);
@@ -305,7 +309,7 @@ static void seal(void)
     undefined(nonce, 12);
     undefined(aad, LARGEST);
     undefined(text, LARGEST);
-    need(answer(keeper_seal(key, 32, nonce, 12, aad, LARGEST, text, LARGEST, sealed, LARGEST, tag, 16)) == KEEPER_DONE, "stopped");
+    need(answer(keeper_seal(key, key_len, nonce, 12, aad, LARGEST, text, LARGEST, sealed, LARGEST, tag, 16)) == KEEPER_DONE, "stopped");
     result(sealed, LARGEST);
     result(tag, 16);
     undefined(sealed, LARGEST);
@@ -314,7 +318,7 @@ static void seal(void)
 
 static void open_sealed(void)
 {
-    need(answer(keeper_open(key, 32, nonce, 12, aad, LARGEST, sealed, LARGEST, tag, 16, opened, LARGEST)) == KEEPER_DONE, "stopped");
+    need(answer(keeper_open(key, key_len, nonce, 12, aad, LARGEST, sealed, LARGEST, tag, 16, opened, LARGEST)) == KEEPER_DONE, "stopped");
     result(opened, LARGEST);
     defined(text, LARGEST);
     need(memcmp(opened, text, LARGEST) == 0, "another text");
@@ -323,21 +327,25 @@ static void open_sealed(void)
 static void open_damaged(void)
 {
     tag[15] ^= 1;
-    need(answer(keeper_open(key, 32, nonce, 12, aad, LARGEST, sealed, LARGEST, tag, 16, opened, LARGEST)) == KEEPER_TAG_DIFFERS, "another stop");
+    need(answer(keeper_open(key, key_len, nonce, 12, aad, LARGEST, sealed, LARGEST, tag, 16, opened, LARGEST)) == KEEPER_TAG_DIFFERS,
+         "another stop");
 }
 
 /* ---- the runs, in their order */
 
 enum reports { NOTHING, ONE_JUMP, SOMETHING };
 
-static const struct {
+struct run {
     const char *name;
     void (*run)(void);
     enum reports reports;
-} runs[] = {
+};
+
+static const struct run pieces[] = {
     {"constant_time_product", products, NOTHING},
     {"constant_time_ghash", hashes, NOTHING},
     {"constant_time_same", comparisons, NOTHING},
+}, calls[] = {
     {"keeper_save with a starting tag", first_save, NOTHING},
     {"keeper_save with a session", save, NOTHING},
     {"keeper_look", look, ONE_JUMP},
@@ -345,17 +353,14 @@ static const struct {
     {"keeper_seal", seal, NOTHING},
     {"keeper_open", open_sealed, ONE_JUMP},
     {"keeper_open, another tag", open_damaged, ONE_JUMP},
+}, to_be_found[] = {
     {"variable_time_halve, in a product", branching_products, SOMETHING},
     {"variable_time_same", early_comparisons, SOMETHING},
 };
 
-int main(void)
+static void run_all(const struct run *runs, size_t count, const char *with)
 {
-    if (!RUNNING_ON_VALGRIND) {
-        puts("to be run under valgrind");
-        return 2;
-    }
-    for (size_t k = 0; k < sizeof runs / sizeof *runs; k++) {
+    for (size_t k = 0; k < count; k++) {
         running = runs[k].name;
         unsigned before = VALGRIND_COUNT_ERRORS;
         runs[k].run();
@@ -365,7 +370,23 @@ int main(void)
         case ONE_JUMP: need(n == 1, "memcheck does not report the jump on the tag alone"); break;
         case SOMETHING: need(n > 0, "memcheck does not report what is there to be found"); break;
         }
-        printf("%s: %u reported\n", running, n);
+        printf("%s%s: %u reported\n", running, with, n);
     }
+}
+
+#define RUN_ALL(runs, with) run_all(runs, sizeof runs / sizeof *runs, with)
+
+int main(void)
+{
+    if (!RUNNING_ON_VALGRIND) {
+        puts("to be run under valgrind");
+        return 2;
+    }
+    RUN_ALL(pieces, "");
+    key_len = KEEPER_KEY_SIZE_128;
+    RUN_ALL(calls, ", a key of 16 bytes");
+    key_len = KEEPER_KEY_SIZE_256;
+    RUN_ALL(calls, ", a key of 32 bytes");
+    RUN_ALL(to_be_found, "");
     return failed;
 }

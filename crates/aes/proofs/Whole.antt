@@ -5,11 +5,12 @@ use mathlib.Core.List.{List}
 use Prim.Native.Nat.{ℕ, zero, suc, _+_, _-_, _*_, _/_, _%_, _≤_}
 use native.Mathlib.Omega.{arith}
 use lib.ListN.{length, replicate, List·getD-append}
+use Rattle.octets.specs.Limits.{short-key, long-key}
 use Rattle.octets.specs.Octets.{_⊕_}
 use Rattle.octets.proofs.Tables.{table-ext}
 use Rattle.aes.specs.State.{sub-bytes, shift-rows, mix-columns, add-round-key}
 use Rattle.aes_key.specs.Key.{byte, KeyLength, Nr, key-expansion, padded, round-keys}
-use Rattle.aes.specs.Cipher.{rounds, cipher, aes}
+use Rattle.aes.specs.Cipher.{rounds, cipher, AES-128, AES-256, aes}
 use Rattle.aes_key.proofs.Schedule.{length-expanded}
 
 -- a round whose words are within the schedule does not see the zeros after it
@@ -39,3 +40,16 @@ unfolding aes round-keys key-expansion
 aes-is key block h =
     let nk = length key / 4 in
     cipher-padded (Nr nk) (key-expansion nk key) block (omega (arith, length-expanded nk key (4 * (Nr nk + 1))))
+
+-- by a key of 16 bytes it is AES-128, by one of 32 AES-256
+of-length : (n nr : ℕ) → Nr (n / 4) ≡ nr → (key : List ℕ) → length key ≡ n → aes key ≡ (λ block. cipher nr (key-expansion (n / 4) key) block)
+unfolding aes
+of-length n nr e key long = λ i block. (ap (λ (m : ℕ). cipher (Nr (m / 4)) (key-expansion (m / 4) key) block) long ∙ ap (λ (r : ℕ). cipher r (key-expansion (n / 4) key) block) e) i
+
+pub aes-128 : (key : List ℕ) → length key ≡ short-key → aes key ≡ AES-128 key
+unfolding AES-128
+aes-128 key long = of-length short-key 10 refl key long
+
+pub aes-256 : (key : List ℕ) → length key ≡ long-key → aes key ≡ AES-256 key
+unfolding AES-256
+aes-256 key long = of-length long-key 14 refl key long

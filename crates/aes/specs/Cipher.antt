@@ -14,6 +14,13 @@ rounds w s (suc n) = add-round-key (mix-columns (shift-rows (sub-bytes (rounds w
 unfoldable pub cipher : ℕ → List ℕ → List ℕ → List ℕ
 cipher nr w block = add-round-key (shift-rows (sub-bytes (rounds w (add-round-key block w 0) (nr - 1)))) w nr
 
--- AES-128, AES-192 or AES-256 of a block, by the key's length
+-- AES-128 and AES-256: the key's words, and the rounds
+unfoldable pub AES-128 : List ℕ → List ℕ → List ℕ
+AES-128 key block = cipher 10 (key-expansion 4 key) block
+
+unfoldable pub AES-256 : List ℕ → List ℕ → List ℕ
+AES-256 key block = cipher 14 (key-expansion 8 key) block
+
+-- AES-128, AES-192 or AES-256 of a block, by the key's length; that it is AES-128 for 16 bytes and AES-256 for 32 is in proofs/Whole.antt
 unfoldable pub aes : List ℕ → List ℕ → List ℕ
 aes key block = let Nk = length key / 4 in cipher (Nr Nk) (key-expansion Nk key) block

@@ -57,11 +57,11 @@ Nr Nk = Nk + 6
 unfoldable pub key-expansion : ℕ → List ℕ → List ℕ
 key-expansion Nk key = expanded Nk key (4 * (Nr Nk + 1))
 
--- 16, 24 or 32 bytes
+-- what the code expands: a key of 16 bytes or of 32
 pub record KeyLength (n : ℕ) : Type 0 where
   pub at-least : 16 ≤ n
   pub at-most : n ≤ 32
-  pub whole : n % 8 ≡ 0
+  pub whole : n % 16 ≡ 0
 
 -- How the code keeps a schedule: in 240 bytes, the longest one's, with zeros behind it
 unfoldable pub padded : List ℕ → List ℕ

@@ -2,12 +2,12 @@
 use sbox::sbox;
 use sbox::sub_byte;
 ghost use mathlib.Core.Path.{_≡_};
-ghost use Prim.Native.Nat.{_+_, _-_, _*_, _<_, _≤_};
+ghost use Prim.Native.Nat.{_+_, _-_, _*_, _/_, _<_, _≤_};
 ghost use lib.ListN.{length};
 ghost use lib.Seq.{sets};
 ghost use Rattle.octets.specs.Table.{table};
 ghost use Rattle.sbox.specs.Field.{sub-byte};
-ghost use Rattle.aes_key.specs.Key.{word, sub-word, x-power, temp, next-word, round-keys, KeyLength};
+ghost use Rattle.aes_key.specs.Key.{word, sub-word, x-power, temp, next-word, Nr, round-keys, KeyLength};
 
 const RCON: [u8; 10] = [0x01, 0x02, 0x04, 0x08, 0x10, 0x20, 0x40, 0x80, 0x1b, 0x36];
 
@@ -82,7 +82,14 @@ fn next_word(sbox: &[u8; 256], key: &[u8], w: &[u8], nk: usize, i: usize) -> [u8
     [u[0] ^ v[0], u[1] ^ v[1], u[2] ^ v[2], u[3] ^ v[3]]
 }
 
-// The key schedule of a key of 16, 24 or 32 bytes.
+// The rounds, Nr, under a key of so many bytes.
+pub fn rounds(key: usize) -> usize
+    ensures { λ r. ⌜ r ≡ Nr (key / 4) ⌝ }
+{
+    key / 4 + 6
+}
+
+// The key schedule of a key of 16 or 32 bytes.
 pub fn expand_key(key: &[u8]) -> [u8; 240]
     requires { ⌜ KeyLength (length (now key)) ⌝ }
     ensures { λ r. ⌜ r ≡ round-keys (now (key .entry)) ⌝ }

@@ -1,4 +1,4 @@
-// Runs NIST's known answers for AES-256 and the worked examples of FIPS 197, and says how many agree.
+// Runs NIST's known answers for AES-128 and AES-256 and FIPS 197's worked examples of the two, and says how many agree.
 // A line of a file is key, text and cipher in hexadecimal; one that begins with '#' is a comment.
 use hex_digits::decode;
 use libc::STDOUT_FILENO;
@@ -17,12 +17,9 @@ fn block(field: &[u8]) -> [u8; 16] {
     out
 }
 
-// The text under a key of one of the standard's three lengths, and zeros under any other.
+// The text under a key of 16 bytes or 32, and zeros under any other.
 fn encrypted(key: &[u8], text: [u8; 16]) -> [u8; 16] {
     if key.len() == 16 {
-        return aes::encrypt(key, text);
-    }
-    if key.len() == 24 {
         return aes::encrypt(key, text);
     }
     if key.len() == 32 {
@@ -118,6 +115,7 @@ fn run(path: &[u8], name: &[u8]) {
 }
 
 fn main() {
+    run(b"aes128.txt", b" known answers of NIST for AES-128");
     run(b"aes256.txt", b" known answers of NIST for AES-256");
     run(b"fips197.txt", b" worked examples of FIPS 197");
 }

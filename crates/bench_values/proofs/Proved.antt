@@ -7,12 +7,13 @@ use Rattle.octets.specs.Word.{word-at, kind-of, value-of, word}
 use Rattle.sbox.specs.Field.{xtime, times, power, inverse, affine, turned, sub-byte, _•_}
 use Rattle.ring.specs.Ring.{ring-wrong, slot-at, page-at, newest-record, nonce-in, nonce-used, not-newest, is-record, half-named, next-page, used-from, records, filled, alone, followed, reading, read-ring, target-page, target-slot}
 use Rattle.stops.specs.Stops.{first-of}
+use Rattle.gcm.specs.Calls.{key-wrong}
 use Rattle.checkpoint.specs.Fram.{fram-wrong, half-length, half-at}
 use Rattle.checkpoint.specs.Checkpoint.{Older, Longer, words, part-wrong, sealed}
 use Rattle.checkpoint.specs.Half.{form-of, kind-at, value-at, open-length, secret-length, stored-restarts, kinds-from, stored-length, good-head}
 use Rattle.checkpoint.proofs.SealedLaws.{length-sealed}
-use Rattle.bench_values.specs.Values.{M13, key, zeros, table, orders, one-save, Agree, Values}
-use Rattle.protocol.specs.Operations.{parts-wrong, state-wrong, staging-wrong, packet-wrong, session-wrong, save-restarts, larger, newest-half, from-wrong, stale, ring-lines, save-stop, half-lines, power-up-stop}
+use Rattle.bench_values.specs.Values.{M13, key, zeros, table, orders, one-save, keys, Agree, Values}
+use Rattle.protocol.specs.Operations.{parts-wrong, state-wrong, staging-wrong, packet-wrong, session-wrong, save-restarts, larger, newest-half, from-wrong, stale, ring-lines, save-stop, half-lines, power-up-stop, look-stop}
 use Rattle.protocol.specs.Journal.{stores-of, erase-if}
 
 older-long : length (sealed key (M13 Older)) ≡ 56
@@ -26,17 +27,21 @@ unfolding zeros
 zeros-long n = length-replicate {A = ℕ} n 0
 
 table-agrees : Agree table
-unfolding read-ring reading used-from alone followed filled records is-record half-named next-page page-at target-page target-slot blank part number word-at kind-of value-of sub-byte inverse affine turned power times xtime _•_ stores-of erase-if from-wrong ring-lines save-stop power-up-stop good-head kinds-from kind-at value-at open-length secret-length stored-restarts stored-length words word bytes first-of ring-wrong fram-wrong half-length parts-wrong state-wrong part-wrong staging-wrong packet-wrong session-wrong save-restarts larger
+unfolding read-ring reading used-from alone followed filled records is-record half-named next-page page-at target-page target-slot blank part number word-at kind-of value-of sub-byte inverse affine turned power times xtime _•_ stores-of erase-if from-wrong ring-lines save-stop power-up-stop good-head kinds-from kind-at value-at open-length secret-length stored-restarts stored-length words word bytes first-of ring-wrong fram-wrong half-length parts-wrong state-wrong part-wrong staging-wrong packet-wrong session-wrong save-restarts larger key-wrong
 table-agrees = rw (older-long, longer-long, zeros-long 262144, zeros-long 32768, zeros-long 262152, zeros-long 32769, zeros-long 32772, zeros-long 0, zeros-long 96, zeros-long 32767, zeros-long 40000, zeros-long 131072, zeros-long 4096, zeros-long 131080, zeros-long 4097, zeros-long 4100, zeros-long 88, zeros-long 4095)
 
 orders-agree : Agree orders
-unfolding read-ring reading used-from alone followed filled records is-record half-named next-page page-at blank part number word-at kind-of half-lines power-up-stop newest-half newest-record slot-at nonce-used nonce-in same half-at form-of good-head kinds-from kind-at value-at value-of open-length secret-length stored-restarts stored-length first-of ring-wrong fram-wrong half-length state-wrong staging-wrong
+unfolding read-ring reading used-from alone followed filled records is-record half-named next-page page-at blank part number word-at kind-of half-lines power-up-stop newest-half newest-record slot-at nonce-used nonce-in same half-at form-of good-head kinds-from kind-at value-at value-of open-length secret-length stored-restarts stored-length first-of ring-wrong fram-wrong half-length state-wrong staging-wrong key-wrong
 orders-agree = rw (zeros-long 96, zeros-long 32768)
 
 one-save-agrees : Agree one-save
-unfolding read-ring reading used-from alone followed filled records is-record half-named next-page page-at blank part number word-at kind-of value-of newest-record slot-at nonce-used nonce-in not-newest stale session-wrong same from-wrong ring-lines save-stop first-of ring-wrong fram-wrong half-length parts-wrong part-wrong packet-wrong staging-wrong
+unfolding read-ring reading used-from alone followed filled records is-record half-named next-page page-at blank part number word-at kind-of value-of newest-record slot-at nonce-used nonce-in not-newest stale session-wrong same from-wrong ring-lines save-stop first-of ring-wrong fram-wrong half-length parts-wrong part-wrong packet-wrong staging-wrong key-wrong
 one-save-agrees = rw (zeros-long 96)
+
+keys-agree : Agree keys
+unfolding read-ring reading used-from page-at blank part from-wrong ring-lines save-stop power-up-stop look-stop first-of ring-wrong fram-wrong half-length parts-wrong part-wrong packet-wrong state-wrong staging-wrong key-wrong
+keys-agree = rw (zeros-long 0, zeros-long 15, zeros-long 16, zeros-long 17, zeros-long 24, zeros-long 31, zeros-long 32, zeros-long 33, zeros-long 96, zeros-long 32768)
 
 pub values : Values
 unfolding Values
-values = (table-agrees, orders-agree, one-save-agrees)
+values = (table-agrees, orders-agree, one-save-agrees, keys-agree)

@@ -1,20 +1,20 @@
 -- Document 01's bench values M1 to M13 (its section "Bench values"), as lists: what the definitions give, beside what document 01 says;
--- M13 for both forms of a head, document 01's and document 02's (A.2); the bounds of A.2 and A.5, the order of A.6, and the one save of A.7.
+-- M13 for both forms of a head, document 01's and document 02's (A.2); the bounds of A.2 and A.5, the order of A.6, the one save of A.7, and the key lengths of A.8.
 use Prim.Native.Nat.{ℕ, _/_}
 use mathlib.Core.Path.{_≡_}
 use mathlib.Core.Bool.{Bool, true, false, not}
 use mathlib.Core.Option.{Option, none, some}
 use mathlib.Core.List.{List, [], _∷_, _++_, map}
 use lib.ListN.{length, replicate}
-use Rattle.octets.specs.Limits.{slot-length, key-length, nonce-length, tag-length}
+use Rattle.octets.specs.Limits.{slot-length, long-key, nonce-length, tag-length}
 use Rattle.octets.specs.Octets.{erased}
 use Rattle.sbox.specs.Field.{xtime, sub-byte}
 use Rattle.ring.specs.Ring.{Newest, Blank, Unreadable, At, AtPending, is-record, half-named, read-ring, target-page, target-slot}
 use Rattle.checkpoint.specs.Checkpoint.{Form, Older, Longer, Checkpoint, head-words, words, sealed}
 use Rattle.checkpoint.specs.Half.{good-head}
-use Rattle.protocol.specs.Types.{Firmware, first-firmware, packet-firmware, larger-firmware, this-firmware, Session}
+use Rattle.protocol.specs.Types.{Firmware, first-firmware, packet-firmware, larger-firmware, half-first-firmware, this-firmware, Session}
 use Rattle.protocol.specs.Calls.{sizes, From, from-tag, from-session}
-use Rattle.protocol.specs.Operations.{session-wrong, save-restarts, larger, save-stop, power-up-stop}
+use Rattle.protocol.specs.Operations.{session-wrong, save-restarts, larger, save-stop, power-up-stop, look-stop}
 use Rattle.protocol.specs.Journal.{Journal, stores-of}
 
 -- ---- rings of 3 pages with 2 slots
@@ -79,7 +79,7 @@ abbrev pub M13 : Form → Checkpoint
 M13 form = record { form = form; packet = 0; open-part = replicate 8 0; secret = replicate 4 0; restarts = 0; previous = replicate tag-length 0; nonce = replicate nonce-length 0 }
 
 abbrev pub key : List ℕ
-key = replicate key-length 0
+key = replicate long-key 0
 
 -- with this many records, and an erase owed or not
 abbrev pub journal : ℕ → Bool → Journal
@@ -227,7 +227,11 @@ table =
     (saves-parts larger-firmware 262144 32768 32768, stops none) ∷
     (saves-parts larger-firmware 262152 0 0, stops (some 2)) ∷
     (saves-parts larger-firmware 262144 32772 0, stops (some 4)) ∷
-    (powers-up larger-firmware 32767, stops (some 4)) ∷ []
+    (powers-up larger-firmware 32767, stops (some 4)) ∷
+    (saves-parts half-first-firmware 262144 32768 32768, stops none) ∷
+    (saves-parts half-first-firmware 262152 0 0, stops (some 2)) ∷
+    (saves-parts half-first-firmware 262144 32772 0, stops (some 4)) ∷
+    (powers-up half-first-firmware 32767, stops (some 4)) ∷ []
 
 -- ---- the order of document 02, A.6, and that before it
 
@@ -241,6 +245,7 @@ orders =
     (powers-up-with first-firmware 0, stops (some 10)) ∷
     (powers-up-with packet-firmware 0, stops (some 10)) ∷
     (powers-up-with larger-firmware 0, stops (some 10)) ∷
+    (powers-up-with half-first-firmware 0, stops (some 11)) ∷
     (powers-up-with this-firmware 0, stops (some 11)) ∷
     (powers-up-with larger-firmware 1, stops (some 11)) ∷
     (powers-up-with this-firmware 1, stops (some 11)) ∷ []
@@ -285,8 +290,55 @@ one-save =
     (follows M3 (session-at 0 1) 0, stops (some 10)) ∷
     (follows M3 (session-at 0 1) 1, stops none) ∷ []
 
+-- ---- the key lengths of document 02, A.8, and those before it
+
+-- with a blank ring, a FRAM of 96 bytes and a key of n: what a save with a starting tag, a power-up and a look stop with
+abbrev saves-under : Firmware → ℕ → Value
+saves-under firmware n = stops (save-stop firmware M1 (zeros 96) (record {
+  arguments = record {
+    sizes = sizes 3 2;
+    key = zeros n;
+    nonce = replicate nonce-length 0;
+    packet = 0;
+    open-part = [];
+    secret = [];
+    staging = zeros 96;
+  };
+  from = from-tag (replicate tag-length 0);
+}))
+
+abbrev powers-up-under : Firmware → ℕ → Value
+powers-up-under firmware n = stops (power-up-stop firmware M1 (zeros 96) (record { sizes = sizes 3 2; key = zeros n; nonce = replicate nonce-length 0; staging = zeros 96; state = zeros 32768 }))
+
+abbrev looks-under : Firmware → ℕ → Value
+looks-under firmware n = stops (look-stop firmware M1 (zeros 96) (record { sizes = sizes 3 2; key = zeros n }))
+
+abbrev pub keys : List (Value × Value)
+keys =
+    (saves-under this-firmware 0, stops (some 3)) ∷
+    (saves-under this-firmware 15, stops (some 3)) ∷
+    (saves-under this-firmware 16, stops none) ∷
+    (saves-under this-firmware 17, stops (some 3)) ∷
+    (saves-under this-firmware 24, stops (some 3)) ∷
+    (saves-under this-firmware 31, stops (some 3)) ∷
+    (saves-under this-firmware 32, stops none) ∷
+    (saves-under this-firmware 33, stops (some 3)) ∷
+    (powers-up-under this-firmware 16, stops (some 6)) ∷
+    (powers-up-under this-firmware 24, stops (some 3)) ∷
+    (powers-up-under this-firmware 32, stops (some 6)) ∷
+    (looks-under this-firmware 16, stops (some 6)) ∷
+    (looks-under this-firmware 24, stops (some 3)) ∷
+    (looks-under this-firmware 32, stops (some 6)) ∷
+    (saves-under first-firmware 16, stops (some 3)) ∷
+    (saves-under packet-firmware 16, stops (some 3)) ∷
+    (saves-under larger-firmware 16, stops (some 3)) ∷
+    (saves-under half-first-firmware 16, stops (some 3)) ∷
+    (saves-under half-first-firmware 32, stops none) ∷
+    (powers-up-under half-first-firmware 16, stops (some 3)) ∷
+    (looks-under half-first-firmware 16, stops (some 3)) ∷ []
+
 abbrev pub Agree : List (Value × Value) → Type 0
 Agree rows = map (λ v. v .0) rows ≡ map (λ v. v .1) rows
 
 unfoldable pub Values : Type 0
-Values = Agree table × Agree orders × Agree one-save
+Values = Agree table × Agree orders × Agree one-save × Agree keys

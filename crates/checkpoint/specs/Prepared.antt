@@ -1,4 +1,4 @@
--- What is made of a key once, before its first use: the round table, the round keys of so many rounds (14 at the most, for a key of 32 bytes) and
+-- What is made of a key once, before its first use: the round table, the round keys of so many rounds (10 for a key of 16 bytes, 14 for one of 32) and
 -- the steps of the hash subkey.
 use Prim.Native.Nat.{ℕ, _<_}
 use mathlib.Core.List.{List}

@@ -2,6 +2,7 @@
 use super::half::good_tag;
 use super::staging::seal;
 use aes::expand_key;
+use aes::rounds;
 use aes::table::round_table;
 use gcm::tag::hash_steps;
 use gcm::tag::wipe_steps;
@@ -10,8 +11,9 @@ ghost use mathlib.Core.Path.{_≡_};
 ghost use mathlib.Core.Bool.{true};
 ghost use Prim.Native.Nat.{_≤_};
 ghost use lib.ListN.{length};
-ghost use Rattle.octets.specs.Limits.{key-length, nonce-length, part-limit, restart-limit, packet-limit, tag-length};
+ghost use Rattle.octets.specs.Limits.{nonce-length, part-limit, restart-limit, packet-limit, tag-length};
 ghost use Rattle.octets.specs.Octets.{put};
+ghost use Rattle.gcm.specs.Calls.{KeyLength};
 ghost use Rattle.checkpoint.specs.Checkpoint.{Longer, head-length, sealed-length, sealed, own-tag, checkpoint-of};
 ghost use Rattle.checkpoint.specs.Half.{form-of, open-length, secret-length, good-head, good-tag};
 
@@ -26,10 +28,10 @@ pub fn seal_under(
     secret: &[u8],
     staging: &mut [u8],
 ) -> [u8; 16]
-    requires { ⌜ (length (now key) ≡ key-length) × (length (now nonce) ≡ nonce-length) × (packet ≤ packet-limit) × (restarts ≤ restart-limit) × (length (now previous) ≡ tag-length) × (length (now «open») ≤ part-limit) × (length (now secret) ≤ part-limit) × (sealed-length Longer (length (now «open»)) (length (now secret)) ≤ length (now staging)) ⌝ }
+    requires { ⌜ KeyLength (length (now key)) × (length (now nonce) ≡ nonce-length) × (packet ≤ packet-limit) × (restarts ≤ restart-limit) × (length (now previous) ≡ tag-length) × (length (now «open») ≤ part-limit) × (length (now secret) ≤ part-limit) × (sealed-length Longer (length (now «open»)) (length (now secret)) ≤ length (now staging)) ⌝ }
     ensures { λ r. ⌜ (r ≡ own-tag (now (key .entry)) (checkpoint-of packet (now («open» .entry)) (now (secret .entry)) restarts (now (previous .entry)) (now (nonce .entry)))) × (now (staging .exit) ≡ put (now (staging .entry)) 0 (sealed (now (key .entry)) (checkpoint-of packet (now («open» .entry)) (now (secret .entry)) restarts (now (previous .entry)) (now (nonce .entry))))) ⌝ }
 {
-    let rounds = key.len() / 4 + 6;
+    let rounds = rounds(key.len());
     let table = round_table();
     let mut keys = expand_key(key);
     let mut steps = hash_steps(&table, &keys, rounds);
@@ -60,10 +62,10 @@ pub fn good_tag_under(
     open: usize,
     secret: usize,
 ) -> bool
-    requires { ⌜ (length (now key) ≡ key-length) × (length (now nonce) ≡ nonce-length) × (good-head part-limit (form-of (now half)) (now half) ≡ true) × (start ≡ head-length (form-of (now half))) × («open» ≡ open-length (form-of (now half)) (now half)) × (secret ≡ secret-length (form-of (now half)) (now half)) ⌝ }
+    requires { ⌜ KeyLength (length (now key)) × (length (now nonce) ≡ nonce-length) × (good-head part-limit (form-of (now half)) (now half) ≡ true) × (start ≡ head-length (form-of (now half))) × («open» ≡ open-length (form-of (now half)) (now half)) × (secret ≡ secret-length (form-of (now half)) (now half)) ⌝ }
     ensures { λ r. ⌜ r ≡ good-tag (form-of (now (half .entry))) (now (key .entry)) (now (nonce .entry)) (now (half .entry)) ⌝ }
 {
-    let rounds = key.len() / 4 + 6;
+    let rounds = rounds(key.len());
     let table = round_table();
     let mut keys = expand_key(key);
     let mut steps = hash_steps(&table, &keys, rounds);

@@ -1,28 +1,32 @@
-// Prints sealed checkpoints of several sizes in both halves of a FRAM image, the largest by their ends, then how each reads, and how a half
-// reads that was changed, also one with a checkpoint of the older form, which comes from standard input.
+// Prints sealed checkpoints of several sizes under keys of 32 and of 16 bytes in both halves of a FRAM image, the largest by their ends, then
+// how each reads, under a key of the other length too, and how a half reads that was changed, also one with a checkpoint of the older
+// form, which comes from standard input.
 use aes::expand_key;
+use aes::rounds;
 use aes::table::round_table;
 use checkpoint::half::Head;
-use checkpoint::half::good_tag;
 use checkpoint::half::open_part;
 use checkpoint::half::open_secret;
 use checkpoint::half::read_head;
 use checkpoint::layout::EMPTY_LENGTH;
 use checkpoint::layout::HEAD_LENGTH;
 use checkpoint::layout::PACKET_LENGTH;
-use checkpoint::staging::seal;
-use gcm::tag::hash_steps;
+use checkpoint::under::good_tag_under;
+use checkpoint::under::seal_under;
 use libc::STDIN_FILENO;
 use libc::STDOUT_FILENO;
 use octets::copy_at;
+use octets::limits::LONG_KEY;
 use octets::limits::PART_LIMIT;
+use octets::limits::SHORT_KEY;
 use octets::part;
 use octets::same;
 ghost use mathlib.Core.Path.{_≡_};
 ghost use mathlib.Core.Bool.{true};
 ghost use Prim.Native.Nat.{_<_, _≤_};
 ghost use lib.ListN.{length};
-ghost use Rattle.octets.specs.Limits.{packet-limit, part-limit};
+ghost use Rattle.octets.specs.Limits.{nonce-length, packet-limit, part-limit};
+ghost use Rattle.gcm.specs.Calls.{KeyLength};
 ghost use Rattle.checkpoint.specs.Checkpoint.{head-length};
 ghost use Rattle.checkpoint.specs.Half.{form-of, open-length, secret-length, good-head};
 
@@ -34,10 +38,10 @@ const WHOLE: usize = 10_000;
 
 const LAST: usize = 64;
 
-const ROUNDS: usize = 14;
-
-// A checkpoint: its half, its packet number, both parts' lengths, its restarts, and its nonce's first byte.
+// A checkpoint: whether its key has 16 bytes or 32, its half, its packet number, both parts' lengths, its restarts, and its nonce's first
+// byte.
 struct Case {
+    short: bool,
     half: usize,
     packet: usize,
     open: usize,
@@ -57,10 +61,17 @@ fn rising(s: &mut [u8], first: u8, step: u8)
     }
 }
 
-fn key() -> [u8; 32] {
-    let mut s = [0u8; 32];
+// The key of 32 bytes, which begins with that of 16.
+fn long_key() -> [u8; LONG_KEY] {
+    let mut s = [0u8; LONG_KEY];
     rising(&mut s, 0, 1);
     s
+}
+
+fn key_length(short: bool) -> usize
+    ensures { λ r. ⌜ KeyLength r ⌝ }
+{
+    if short { SHORT_KEY } else { LONG_KEY }
 }
 
 fn nonce(first: u8) -> [u8; 12] {
@@ -96,14 +107,9 @@ fn stage(c: Case, staging: &mut [u8])
     let secret = c.secret;
     let first = first_part();
     let second = second_part();
-    let table = round_table();
-    let keys = expand_key(&key());
-    let steps = hash_steps(&table, &keys, ROUNDS);
-    seal(
-        &table,
-        &keys,
-        ROUNDS,
-        &steps,
+    let bytes = long_key();
+    seal_under(
+        part(&bytes, 0, key_length(c.short)),
         &nonce(c.first),
         c.packet,
         c.restarts,
@@ -203,39 +209,43 @@ fn head_agrees(head: Head, c: Case) -> bool {
         & (head.restarts == c.restarts)
 }
 
-// Stop 12, or 0 where both parts are the ones sealed, else 1.
-fn opened(half: &[u8], start: usize, open: usize, secret: usize, first: u8) -> usize
-    requires { ⌜ (good-head part-limit (form-of (now half)) (now half) ≡ true) × (start ≡ head-length (form-of (now half))) × («open» ≡ open-length (form-of (now half)) (now half)) × (secret ≡ secret-length (form-of (now half)) (now half)) × («open» ≤ part-limit) × (secret ≤ part-limit) ⌝ }
+// Whether the secret part, decrypted, is the one sealed.
+fn secret_opens(
+    key: &[u8],
+    nonce: &[u8],
+    half: &[u8],
+    start: usize,
+    open: usize,
+    secret: usize,
+) -> bool
+    requires { ⌜ KeyLength (length (now key)) × (length (now nonce) ≡ nonce-length) × (good-head part-limit (form-of (now half)) (now half) ≡ true) × (start ≡ head-length (form-of (now half))) × («open» ≡ open-length (form-of (now half)) (now half)) × (secret ≡ secret-length (form-of (now half)) (now half)) × (secret ≤ part-limit) ⌝ }
 {
-    let same_open = open_agrees(half, start, open);
     let table = round_table();
-    let keys = expand_key(&key());
-    let steps = hash_steps(&table, &keys, ROUNDS);
-    let nonce = nonce(first);
-    if good_tag(
+    let keys = expand_key(key);
+    let mut state = [0u8; PART_LIMIT];
+    open_secret(
         &table,
         &keys,
-        ROUNDS,
-        &steps,
-        &nonce,
+        rounds(key.len()),
+        nonce,
         half,
         start,
         open,
         secret,
-    ) {
-        let mut state = [0u8; PART_LIMIT];
-        open_secret(
-            &table,
-            &keys,
-            ROUNDS,
-            &nonce,
-            half,
-            start,
-            open,
-            secret,
-            &mut state,
-        );
-        if same_open & secret_agrees(&state, secret) {
+        &mut state,
+    );
+    secret_agrees(&state, secret)
+}
+
+// Stop 12, or 0 where both parts are the ones sealed, else 1.
+fn opened(short: bool, half: &[u8], start: usize, open: usize, secret: usize, first: u8) -> usize
+    requires { ⌜ (good-head part-limit (form-of (now half)) (now half) ≡ true) × (start ≡ head-length (form-of (now half))) × («open» ≡ open-length (form-of (now half)) (now half)) × (secret ≡ secret-length (form-of (now half)) (now half)) × («open» ≤ part-limit) × (secret ≤ part-limit) ⌝ }
+{
+    let bytes = long_key();
+    let key = part(&bytes, 0, key_length(short));
+    let nonce = nonce(first);
+    if good_tag_under(key, &nonce, half, start, open, secret) {
+        if open_agrees(half, start, open) & secret_opens(key, &nonce, half, start, open, secret) {
             return 0;
         }
         return 1;
@@ -250,7 +260,7 @@ fn reads(half: &[u8], c: Case) -> usize {
     }
     let head = read_head(half);
     if head.good {
-        let n = opened(half, head.start, head.open, head.secret, c.first);
+        let n = opened(c.short, half, head.start, head.open, head.secret, c.first);
         if n != 0 {
             return n;
         }
@@ -262,7 +272,20 @@ fn reads(half: &[u8], c: Case) -> usize {
     11
 }
 
-// Prints how the checkpoint reads from its half.
+// The same checkpoint, with a key of the other length.
+fn other_key(c: Case) -> Case {
+    Case {
+        short: !c.short,
+        half: c.half,
+        packet: c.packet,
+        open: c.open,
+        secret: c.secret,
+        restarts: c.restarts,
+        first: c.first,
+    }
+}
+
+// Prints how the checkpoint reads from its half, under its key and under that of the other length.
 fn show_reading(c: Case)
     requires { ⌜ (c .half ≤ 1) × (c .packet ≤ packet-limit) × (c .«open» ≤ part-limit) × (c .secret ≤ part-limit) × (c .restarts ≤ 8) ⌝ }
 {
@@ -270,7 +293,9 @@ fn show_reading(c: Case)
     place(c, &mut image);
     print_case(c);
     let i = c.half * HALF;
-    print_number(b": ", reads(part(&image, i, HALF), c));
+    let half = part(&image, i, HALF);
+    print_number(b": ", reads(half, c));
+    print_number(b", under the other key ", reads(half, other_key(c)));
     io::write_all(STDOUT_FILENO, b"\n");
 }
 
@@ -288,6 +313,7 @@ fn show_change(name: &[u8], c: Case, half: &mut [u8], n: usize, at: usize, byte:
 }
 
 fn a_case(
+    short: bool,
     half: usize,
     packet: usize,
     open: usize,
@@ -299,6 +325,7 @@ fn a_case(
     ensures { λ r. ⌜ (r .half ≤ 1) × (r .packet ≤ packet-limit) × (r .«open» ≤ part-limit) × (r .secret ≤ part-limit) × (r .restarts ≤ 8) ⌝ }
 {
     Case {
+        short,
         half,
         packet,
         open,
@@ -309,33 +336,55 @@ fn a_case(
 }
 
 // The checkpoint with a number, 0 to 9.
-fn numbered(k: usize) -> Case
+fn numbered(short: bool, k: usize) -> Case
     ensures { λ r. ⌜ (r .half ≤ 1) × (r .packet ≤ packet-limit) × (r .«open» ≤ part-limit) × (r .secret ≤ part-limit) × (r .restarts ≤ 8) ⌝ }
 {
     match k {
-        0 => a_case(0, 0, 0, 0, 0, 0),
-        1 => a_case(1, 1, 0, 0, 8, 128),
-        2 => a_case(0, 256, 4, 0, 1, 16),
-        3 => a_case(1, 65_536, 0, 4, 2, 32),
-        4 => a_case(0, 5, 8, 4, 3, 48),
-        5 => a_case(1, 1_073_741_823, 20, 36, 4, 64),
-        6 => a_case(0, 16_777_216, 4096, 4096, 5, 80),
-        7 => a_case(1, 305_419_896, 4096, 4096, 6, 96),
-        8 => a_case(0, 2, 32_768, 32_768, 7, 112),
-        _ => a_case(1, 3, 32_768, 32_768, 8, 128),
+        0 => a_case(short, 0, 0, 0, 0, 0, 0),
+        1 => a_case(short, 1, 1, 0, 0, 8, 128),
+        2 => a_case(short, 0, 256, 4, 0, 1, 16),
+        3 => a_case(short, 1, 65_536, 0, 4, 2, 32),
+        4 => a_case(short, 0, 5, 8, 4, 3, 48),
+        5 => a_case(short, 1, 1_073_741_823, 20, 36, 4, 64),
+        6 => a_case(short, 0, 16_777_216, 4096, 4096, 5, 80),
+        7 => a_case(short, 1, 305_419_896, 4096, 4096, 6, 96),
+        8 => a_case(short, 0, 2, 32_768, 32_768, 7, 112),
+        _ => a_case(short, 1, 3, 32_768, 32_768, 8, 128),
     }
 }
 
+fn show_some(short: bool, from: usize, to: usize) {
+    for k in from..to {
+        show(numbered(short, k));
+    }
+}
+
+fn show_readings(short: bool, from: usize, to: usize) {
+    for k in from..to {
+        show_reading(numbered(short, k));
+    }
+}
+
+fn print_key(short: bool) {
+    print_number(b"a key of ", key_length(short));
+    io::write_all(STDOUT_FILENO, b" bytes\n");
+}
+
+// Under the shorter key all but those whose parts have 4,096 bytes.
 fn show_all() {
-    for k in 0..10usize {
-        show(numbered(k));
-    }
+    print_key(false);
+    show_some(false, 0, 10);
+    print_key(true);
+    show_some(true, 0, 6);
+    show_some(true, 8, 10);
 }
 
-fn show_readings() {
-    for k in 0..10usize {
-        show_reading(numbered(k));
-    }
+fn show_all_readings() {
+    print_key(false);
+    show_readings(false, 0, 10);
+    print_key(true);
+    show_readings(true, 0, 6);
+    show_readings(true, 8, 10);
 }
 
 // Words of another kind. Those from the open part's length on stand at offset i.
@@ -407,11 +456,12 @@ fn show_changes(c: Case, half: &mut [u8], i: usize)
 }
 
 // A half with a checkpoint of the longer form, changed.
-fn show_longer() {
-    let c = a_case(0, 5, 8, 4, 3, 48);
+fn show_longer(short: bool) {
+    let c = a_case(short, 0, 5, 8, 4, 3, 48);
     let mut half = [0u8; HALF];
     stage(c, &mut half);
-    io::write_all(STDOUT_FILENO, b"the longer head\n");
+    io::write_all(STDOUT_FILENO, b"the longer head, ");
+    print_key(short);
     show_change(b"as it was", c, &mut half, HALF, 0, 0x00);
     show_change(b"packet number of kind 1", c, &mut half, HALF, 0, 0x40);
     show_change(b"packet number of kind 2", c, &mut half, HALF, 0, 0x80);
@@ -420,19 +470,21 @@ fn show_longer() {
     show_changes(c, &mut half, 4);
 }
 
-// The same of the older form; the checkpoint comes from standard input.
+// The same of the older form, whose firmware took keys of 32 bytes alone; the checkpoint comes from standard input.
 fn show_older() {
-    let c = a_case(0, 0, 8, 4, 3, 48);
+    let c = a_case(false, 0, 0, 8, 4, 3, 48);
     let mut half = [0u8; HALF];
     io::read_full(STDIN_FILENO, &mut half);
-    io::write_all(STDOUT_FILENO, b"the older head\n");
+    io::write_all(STDOUT_FILENO, b"the older head, ");
+    print_key(false);
     show_change(b"as it was", c, &mut half, HALF, 0, 0x40);
     show_changes(c, &mut half, 0);
 }
 
 fn main() {
     show_all();
-    show_readings();
-    show_longer();
+    show_all_readings();
+    show_longer(false);
+    show_longer(true);
     show_older();
 }

@@ -14,22 +14,27 @@ use Rattle.octets.specs.Octets.{put, same}
 use Rattle.octets.proofs.Laws.{same-refl, same-equal, equal-same, put-front}
 use Rattle.stops.specs.Stops.{first-of}
 use Rattle.aes.specs.Cipher.{aes}
+use Rattle.aes.proofs.Whole.{aes-128, aes-256}
 use Rattle.gcm.specs.Gcm.{GCM-AE, GCM-AD, encrypted, tag}
 use Rattle.gcm.specs.Calls.{seal-stop, sealing-at, sealing, open-length-stop, Opening, opening}
+use Rattle.gcm.specs.Standard.{sealed-by, answered, opened-by, ByLength}
 use Rattle.gcm.proofs.Checks.{Fit, seal-fits}
 use Rattle.gcm.proofs.Laws.{encrypted-twice, length-encrypted, length-tag}
 use Rattle.gcm.proofs.Outcomes.{opened}
 
 -- a call whose lengths pass answers what GCM-AE gives
 pub sealing-is : (key nonce aad text out : List ℕ) → seal-stop (length key) (length nonce) (length aad) (length text) (length out) ≡ none
-    → sealing key nonce aad text out ≡ record { stop = none; tag = GCM-AE (aes key) nonce text aad .1; out = put out 0 (GCM-AE (aes key) nonce text aad .0) }
+    → sealing key nonce aad text out ≡ sealed-by nonce aad text out (aes key)
 unfolding sealing sealing-at GCM-AE encrypted tag
 sealing-is key nonce aad text out e = ap (λ (o : Option ℕ). sealing-at o key nonce aad text out) e
 
--- how `open` answers with what GCM-AD gives
-abbrev pub answered : Option (List ℕ) → List ℕ → Opening
-answered (some P) out = record { stop = none; out = put out 0 P }
-answered none out = record { stop = some 12; out = out }
+-- and what holds by AES holds by AES-128 or AES-256, as the key's length says
+by-length : {A : Type 0} (key : List ℕ) (x : A) (f : (List ℕ → List ℕ) → A) → x ≡ f (aes key) → ByLength key x f
+by-length key x f p = (λ e. p ∙ ap f (aes-128 key e), λ e. p ∙ ap f (aes-256 key e))
+
+pub sealing-by-length : (key nonce aad text out : List ℕ) → seal-stop (length key) (length nonce) (length aad) (length text) (length out) ≡ none
+    → ByLength key (sealing key nonce aad text out) (sealed-by nonce aad text out)
+sealing-by-length key nonce aad text out e = by-length key _ (sealed-by nonce aad text out) (sealing-is key nonce aad text out e)
 
 module _ (key nonce aad text given out : List ℕ) (fits : open-length-stop (length key) (length nonce) (length aad) (length text) (length given) (length out) ≡ none) where
   judged : (b : Bool) → same given (tag key nonce aad text) ≡ b → opening key nonce aad text given out ≡ answered (cond b (some (encrypted key nonce text)) none) out
@@ -37,9 +42,12 @@ module _ (key nonce aad text given out : List ℕ) (fits : open-length-stop (len
   judged false e = sym (opened key nonce aad text given out false (some 12) _ fits (sym e) refl (inr (refl, refl)))
 
   -- a call whose lengths pass answers what GCM-AD gives
-  pub opening-is : opening key nonce aad text given out ≡ answered (GCM-AD (aes key) nonce text aad given) out
+  pub opening-is : opening key nonce aad text given out ≡ opened-by nonce aad text given out (aes key)
   unfolding GCM-AD encrypted tag
   opening-is = judged (same given (tag key nonce aad text)) refl
+
+  pub opening-by-length : ByLength key (opening key nonce aad text given out) (opened-by nonce aad text given out)
+  opening-by-length = by-length key _ (opened-by nonce aad text given out) opening-is
 
   stop-of : (b : Bool) → answered (cond b (some (encrypted key nonce text)) none) out .stop ≡ none → b ≡ true
   stop-of true e = refl
@@ -57,7 +65,7 @@ module _ (key nonce aad text given out : List ℕ) (fits : open-length-stop (len
 fitting : (key nonce aad text given out : ℕ) → Fit key nonce aad text out → given ≡ tag-length → open-length-stop key nonce aad text given out ≡ none
 unfolding open-length-stop first-of
 fitting key nonce aad text given out f e =
-    simp (eq-eqb _ _ (f .key-fits), eq-eqb _ _ (f .nonce-fits), eq-eqb _ _ e, le-ltb _ _ (f .aad-fits), le-ltb _ _ (f .text-fits), le-ltb _ _ (f .out-holds))
+    simp (f .key-taken, eq-eqb _ _ (f .nonce-fits), eq-eqb _ _ e, le-ltb _ _ (f .aad-fits), le-ltb _ _ (f .text-fits), le-ltb _ _ (f .out-holds))
 
 -- what a call sealed, opened with the tag that it answered, is the text again, in any output that holds it
 pub sealed-opened : (key nonce aad text out back : List ℕ) → seal-stop (length key) (length nonce) (length aad) (length text) (length out) ≡ none → length text ≤ length back
@@ -69,7 +77,7 @@ sealed-opened key nonce aad text out back e room =
     let long : length C ≡ length text = length-encrypted key nonce text in
     let f = seal-fits (length key) (length nonce) (length aad) (length text) (length out) e in
     let f′ : Fit (length key) (length nonce) (length aad) (length C) (length back) =
-    record { key-fits = f .key-fits; nonce-fits = f .nonce-fits; aad-fits = f .aad-fits; text-fits = omega arith; out-holds = omega arith } in
+    record { key-taken = f .key-taken; key-fits = f .key-fits; nonce-fits = f .nonce-fits; aad-fits = f .aad-fits; text-fits = omega arith; out-holds = omega arith } in
     let front : take (length text) (put out 0 C) ≡ C = ap (take (length text)) (put-front out C) ∙ take-at C (drop (length C) out) (length text) long in
     ap (λ (o : Option ℕ). let s = sealing-at o key nonce aad text out in opening key nonce aad (take (length text) (s .out)) (s .tag) back) e
     ∙ ap (λ (c : List ℕ). opening key nonce aad c T back) front

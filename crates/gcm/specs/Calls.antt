@@ -1,21 +1,23 @@
--- Sealing and opening, offered alone: document 01, "The cipher", and of its stops the rows 3, 4 and 12.
-use mathlib.Core.Bool.{Bool, not, _||_}
+-- Sealing and opening, offered alone: document 01, "The cipher", and of its stops the rows 3, 4 and 12; and document 02, A.8.
+use mathlib.Core.Bool.{Bool, true, not, _&&_, _||_}
 use mathlib.Core.List.{List, [], _∷_, _++_}
 use mathlib.Core.Option.{Option, none, some}
 use Prim.Native.Nat.{ℕ}
 use lib.Dec.{eqb, ltb}
 use lib.ListN.{length, replicate}
-use Rattle.octets.specs.Limits.{key-length, nonce-length, tag-length, text-limit}
+use Rattle.octets.specs.Limits.{key-lengths, nonce-length, tag-length, text-limit}
 use Rattle.octets.specs.Octets.{put, same}
 use Rattle.stops.specs.Stops.{first-of}
 use Rattle.stops.specs.View.{check-number}
 use Rattle.stops.specs.declared.Check.{Check}
+pub use Rattle.aes_key.specs.Key.{KeyLength}
 use Rattle.gcm.specs.Gcm.{encrypted, tag}
 use Rattle.gcm.specs.declared.Sealed.{Sealed}
 
--- conditions on lengths in bytes
-abbrev pub key-wrong : ℕ → Bool
-key-wrong n = not (eqb n key-length)
+-- conditions on lengths in bytes: that of a key is none of those which are taken
+unfoldable pub key-wrong : (taken : List ℕ) → ℕ → Bool
+key-wrong [] n = true
+key-wrong (m ∷ more) n = not (eqb n m) && key-wrong more n
 
 abbrev pub nonce-wrong : ℕ → Bool
 nonce-wrong n = not (eqb n nonce-length)
@@ -30,7 +32,7 @@ buffers-wrong aad text out = ltb text-limit aad || ltb text-limit text || ltb ou
 -- ---- sealing
 
 unfoldable pub seal-stop : (key nonce aad text out : ℕ) → Option ℕ
-seal-stop key nonce aad text out = first-of ((3, key-wrong key || nonce-wrong nonce) ∷ (4, buffers-wrong aad text out) ∷ [])
+seal-stop key nonce aad text out = first-of ((3, key-wrong key-lengths key || nonce-wrong nonce) ∷ (4, buffers-wrong aad text out) ∷ [])
 
 -- what a sealing answers, and what the output holds afterwards
 pub record Sealing : Type 0 where
@@ -52,7 +54,7 @@ sealing key nonce aad text out = sealing-at (seal-stop (length key) (length nonc
 
 -- the rows that look at lengths alone, and where these pass the tag's
 abbrev pub open-length-rows : (key nonce aad text given out : ℕ) → List (ℕ × Bool)
-open-length-rows key nonce aad text given out = (3, key-wrong key || nonce-wrong nonce || tag-wrong given) ∷ (4, buffers-wrong aad text out) ∷ []
+open-length-rows key nonce aad text given out = (3, key-wrong key-lengths key || nonce-wrong nonce || tag-wrong given) ∷ (4, buffers-wrong aad text out) ∷ []
 
 abbrev pub tag-row : (key nonce aad text given : List ℕ) → List (ℕ × Bool)
 tag-row key nonce aad text given = (12, not (same given (tag key nonce aad text))) ∷ []

@@ -1,14 +1,16 @@
-// AES-256-GCM (SP 800-38D), with nonces of 12 bytes and tags of 16: sealing and opening alone, and their pieces for a caller that
-// makes its key schedule once.
+// AES-128-GCM and AES-256-GCM (SP 800-38D), by the key's length, with nonces of 12 bytes and tags of 16: sealing and opening alone, and
+// their pieces for a caller that makes its key schedule once.
 pub mod counter_mode;
 pub mod tag;
 
 use aes::expand_key;
+use aes::rounds;
 use aes::table::round_table;
 use counter_mode::encrypt;
 use octets::fill;
-use octets::limits::KEY_LENGTH;
+use octets::limits::LONG_KEY;
 use octets::limits::NONCE_LENGTH;
+use octets::limits::SHORT_KEY;
 use octets::limits::TAG_LENGTH;
 use octets::limits::TEXT_LIMIT;
 use octets::same;
@@ -20,6 +22,7 @@ use tag::wipe_steps;
 ghost use mathlib.Core.Path.{_≡_};
 ghost use mathlib.Core.Option.{none};
 ghost use lib.ListN.{length};
+ghost use Rattle.octets.specs.Limits.{key-lengths};
 ghost use Rattle.octets.specs.Octets.{put};
 ghost use Rattle.stops.specs.View.{check-number};
 ghost use Rattle.gcm.specs.Gcm.{encrypted, tag};
@@ -33,9 +36,9 @@ pub struct Sealed {
 
 // Whether a key of n bytes is refused.
 pub fn key_wrong(n: usize) -> bool
-    ensures { λ r. ⌜ r ≡ key-wrong n ⌝ }
+    ensures { λ r. ⌜ r ≡ key-wrong key-lengths n ⌝ }
 {
-    n != KEY_LENGTH
+    (n != SHORT_KEY) & (n != LONG_KEY)
 }
 
 // Whether a nonce of n bytes is refused.
@@ -92,7 +95,7 @@ fn seal_checked(key: &[u8], nonce: &[u8], aad: &[u8], text: &[u8], out: &mut [u8
     requires { ⌜ seal-stop (length (now key)) (length (now nonce)) (length (now aad)) (length (now text)) (length (now out)) ≡ none ⌝ }
     ensures { λ r. ⌜ (r ≡ tag (now (key .entry)) (now (nonce .entry)) (now (aad .entry)) (encrypted (now (key .entry)) (now (nonce .entry)) (now (text .entry)))) × (now (out .exit) ≡ put (now (out .entry)) 0 (encrypted (now (key .entry)) (now (nonce .entry)) (now (text .entry)))) ⌝ }
 {
-    let rounds = key.len() / 4 + 6;
+    let rounds = rounds(key.len());
     let table = round_table();
     let mut keys = expand_key(key);
     let mut steps = hash_steps(&table, &keys, rounds);
@@ -140,7 +143,7 @@ fn open_checked(
     requires { ⌜ open-length-stop (length (now key)) (length (now nonce)) (length (now aad)) (length (now text)) (length (now given)) (length (now out)) ≡ none ⌝ }
     ensures { λ r. ⌜ opened-as r (now (out .exit)) ≡ opening (now (key .entry)) (now (nonce .entry)) (now (aad .entry)) (now (text .entry)) (now (given .entry)) (now (out .entry)) ⌝ }
 {
-    let rounds = key.len() / 4 + 6;
+    let rounds = rounds(key.len());
     let table = round_table();
     let mut keys = expand_key(key);
     let mut steps = hash_steps(&table, &keys, rounds);

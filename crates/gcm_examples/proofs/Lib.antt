@@ -1,2 +1,4 @@
 -- Worked examples, as theorems.
-pub mod Examples
+pub mod Shared
+pub mod Case4
+pub mod Case16

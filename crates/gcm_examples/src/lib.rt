@@ -1,1 +1,1 @@
-// A worked example of GCM's authors, computed from the definitions. There is no code: it stands in proofs/.
+// Worked examples of GCM's authors, computed from the definitions. There is no code: they stand in proofs/.

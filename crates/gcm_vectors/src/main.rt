@@ -1,5 +1,5 @@
-// Runs NIST's vectors for AES-256-GCM, and cases at the limits of lengths, and says how many agree. A line of a file is a case, of fields
-// in hexadecimal; a field '-' is empty, and a line that begins with '#' is a comment.
+// Runs NIST's vectors for AES-128-GCM and AES-256-GCM, and cases at the limits of lengths, and says how many agree. A line of a file is a
+// case, of fields in hexadecimal; a field '-' is empty, and a line that begins with '#' is a comment.
 use hex_digits::decode;
 use libc::STDOUT_FILENO;
 use octets::copy;
@@ -332,13 +332,23 @@ fn run(kind: Kind, path: &[u8], name: &[u8]) {
 fn main() {
     run(
         Kind::Seals,
+        b"gcm128-seal.txt",
+        b" vectors of NIST for sealing by AES-128-GCM",
+    );
+    run(
+        Kind::Opens,
+        b"gcm128-open.txt",
+        b" vectors of NIST for opening by AES-128-GCM",
+    );
+    run(
+        Kind::Seals,
         b"gcm256-seal.txt",
-        b" vectors of NIST for sealing",
+        b" vectors of NIST for sealing by AES-256-GCM",
     );
     run(
         Kind::Opens,
         b"gcm256-open.txt",
-        b" vectors of NIST for opening",
+        b" vectors of NIST for opening by AES-256-GCM",
     );
     run(
         Kind::Limits,

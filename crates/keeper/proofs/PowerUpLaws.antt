@@ -8,11 +8,13 @@ use native.Mathlib.Omega.{arith}
 use lib.Dec.{ltb}
 use lib.ListN.{length, take}
 use borrow.Author.Tests.{eqb-true, ltb-false, not-false}
-use Rattle.octets.specs.Limits.{key-length, nonce-length, part-limit, fram-limit}
+use Rattle.octets.specs.Limits.{key-lengths, nonce-length, part-limit, fram-limit}
 use Rattle.stops.specs.Stops.{first-of, then-stop}
 use Rattle.stops.proofs.Laws.{tried, tried-first, first-append, one-more, passes, neither}
 use Rattle.ring.specs.Ring.{Newest, ring-wrong, read-ring, nonce-used, newest-record, half-named, target-page, target-slot}
 use Rattle.ring.proofs.NewestLaws.{newest-half-fits}
+use Rattle.gcm.specs.Calls.{KeyLength}
+use Rattle.gcm.proofs.Keys.{whole-key}
 use Rattle.checkpoint.specs.Checkpoint.{Older, Longer, empty-length}
 use Rattle.checkpoint.specs.Fram.{fram-wrong, half-length}
 use Rattle.checkpoint.specs.Half.{form-of, good-head, good-tag, stored}
@@ -29,7 +31,7 @@ use Rattle.resealing.specs.Stages.{opening-lines}
 
 pub buffers-tried : (ring fram : List ℕ) (a : PowersUp) (c d : Bool) (o₂ o₃ o₄ : Option ℕ)
     → o₂ ≡ first-of (of-memories (a .sizes .pages) (a .sizes .slots) ring fram)
-    → c ≡ key-wrong (length (a .key)) || nonce-wrong (length (a .nonce)) → d ≡ staging-wrong (a .staging) fram || state-wrong this-firmware (a .state)
+    → c ≡ key-wrong key-lengths (length (a .key)) || nonce-wrong (length (a .nonce)) → d ≡ staging-wrong (a .staging) fram || state-wrong this-firmware (a .state)
     → o₃ ≡ then-stop o₂ 3 c → o₄ ≡ then-stop o₃ 4 d → o₄ ≡ first-of (power-up-buffers ring fram a)
 buffers-tried ring fram a c d o₂ o₃ o₄ e x y f g = one-more (_ ∷ _ ∷ _ ∷ []) 4 _ d o₃ o₄ (one-more (_ ∷ _ ∷ []) 3 _ c o₂ o₃ e x f) y g
 
@@ -38,7 +40,7 @@ buffers-tried ring fram a c d o₂ o₃ o₄ e x y f g = one-more (_ ∷ _ ∷ _
 pub record Buffers (ring fram : List ℕ) (a : PowersUp) : Type 0 where
   pub ring-right : ring-wrong (a .sizes .pages) (a .sizes .slots) ring ≡ false
   pub fram-right : fram-wrong fram-limit fram ≡ false
-  pub key : length (a .key) ≡ key-length
+  pub key : KeyLength (length (a .key))
   pub nonce : length (a .nonce) ≡ nonce-length
   pub staging : half-length fram ≤ length (a .staging)
   pub state : part-limit ≤ length (a .state)
@@ -47,12 +49,12 @@ pub buffers-pass : (ring fram : List ℕ) (a : PowersUp) → first-of (power-up-
 unfolding staging-wrong state-wrong
 buffers-pass ring fram a e =
     let p = passes _ e in
-    let k = neither (key-wrong (length (a .key))) (nonce-wrong (length (a .nonce))) (p .1 .1 .0) in
+    let k = neither (key-wrong key-lengths (length (a .key))) (nonce-wrong (length (a .nonce))) (p .1 .1 .0) in
     let s = neither (ltb (length (a .staging)) (half-length fram)) (ltb (length (a .state)) part-limit) (p .1 .1 .1 .0) in
     record {
       ring-right = p .0;
       fram-right = p .1 .0;
-      key = eqb-true (length (a .key)) key-length (not-false _ (k .0));
+      key = whole-key (length (a .key)) (k .0);
       nonce = eqb-true (length (a .nonce)) nonce-length (not-false _ (k .1));
       staging = ltb-false (length (a .staging)) (half-length fram) (s .0);
       state = ltb-false (length (a .state)) part-limit (s .1);

@@ -4,7 +4,7 @@ use mathlib.Core.Bool.{Bool, not, _||_}
 use mathlib.Core.List.{List, [], _∷_, _++_}
 use lib.ListN.{length, take}
 use Rattle.protocol.specs.Types.{this-firmware}
-use Rattle.octets.specs.Limits.{nonce-length, part-limit}
+use Rattle.octets.specs.Limits.{key-lengths, nonce-length, part-limit}
 use Rattle.ring.specs.Ring.{half-named}
 use Rattle.checkpoint.specs.Fram.{half-at}
 use Rattle.checkpoint.specs.Half.{form-of, good-head, good-tag}
@@ -17,7 +17,7 @@ use Rattle.protocol.specs.Operations.{key-wrong, nonce-wrong, staging-wrong, st
 abbrev pub power-up-buffers : (ring fram : List ℕ) → PowersUp → List (ℕ × Bool)
 power-up-buffers ring fram a =
     of-memories (a .sizes .pages) (a .sizes .slots) ring fram ++ (
-    (3, key-wrong (length (a .key)) || nonce-wrong (length (a .nonce))) ∷
+    (3, key-wrong key-lengths (length (a .key)) || nonce-wrong (length (a .nonce))) ∷
     (4, staging-wrong (a .staging) fram || state-wrong this-firmware (a .state)) ∷ [])
 
 -- those about the half that a record names

@@ -33,12 +33,13 @@ ghost use mathlib.Core.Option.{none};
 ghost use mathlib.Core.List.{List};
 ghost use Prim.Native.Nat.{ℕ, _≤_};
 ghost use lib.ListN.{length};
-ghost use Rattle.octets.specs.Limits.{key-length, nonce-length, part-limit, slot-length, fram-limit};
+ghost use Rattle.octets.specs.Limits.{nonce-length, part-limit, slot-length, fram-limit};
 ghost use Rattle.stops.specs.Stops.{first-of};
 ghost use Rattle.stops.specs.View.{check-number, stop-number};
 ghost use Rattle.memories.specs.Stages.{of-newest};
 ghost use Rattle.ring.specs.Ring.{read-ring, half-named, Within};
 ghost use Rattle.ring.specs.View.{newest};
+ghost use Rattle.gcm.specs.Calls.{KeyLength};
 ghost use Rattle.checkpoint.specs.Checkpoint.{Longer};
 ghost use Rattle.checkpoint.specs.Fram.{fram-wrong};
 ghost use Rattle.checkpoint.specs.Half.{form-of, good-head, good-tag, stored};
@@ -77,7 +78,7 @@ fn restore(
     page: usize,
     slot: usize,
 ) -> PoweredUp
-    requires { ⌜ (length (now key) ≡ key-length) × (length (now latest) ≡ nonce-length) × (length (now nonce) ≡ nonce-length) × (good-head part-limit (form-of (now half)) (now half) ≡ true) × HeadOf head (now half) × (length (now half) ≤ length (now staging)) × (part-limit ≤ length (now state)) ⌝ }
+    requires { ⌜ KeyLength (length (now key)) × (length (now latest) ≡ nonce-length) × (length (now nonce) ≡ nonce-length) × (good-head part-limit (form-of (now half)) (now half) ≡ true) × HeadOf head (now half) × (length (now half) ≤ length (now staging)) × (part-limit ≤ length (now state)) ⌝ }
     ensures { λ r. ⌜ view-powered-up r (now (staging .exit)) (now (state .exit)) ≡ begin (first-of (opening-lines (now (half .entry)) (good-tag (form-of (now (half .entry))) (now (key .entry)) (now (latest .entry)) (now (half .entry))) used)) (now (key .entry)) (resumed Longer (now (key .entry)) (now (nonce .entry)) (stored (form-of (now (half .entry))) (now (key .entry)) (now (latest .entry)) (now (half .entry)))) (job-of (now (key .entry)) (resumed Longer (now (key .entry)) (now (nonce .entry)) (stored (form-of (now (half .entry))) (now (key .entry)) (now (latest .entry)) (now (half .entry)))) (view-phase phase) PowerUp other page slot) (now (staging .entry)) (now (state .entry)) (stored (form-of (now (half .entry))) (now (key .entry)) (now (latest .entry)) (now (half .entry)) .secret) ⌝ }
 {
     let resealed = reseal(key, latest, half, head, nonce, used, staging, state);
@@ -142,7 +143,7 @@ fn check_power_up_buffers(
 
 // Stops 11, 12, 13, 10 and 4 of power-up, on the half that a record names; the nonce is used or not.
 fn check_power_up_half(record: &[u8], fram: &[u8], key: &[u8], used: bool) -> Check
-    requires { ⌜ (fram-wrong fram-limit (now fram) ≡ false) × (length (now key) ≡ key-length) × (length (now «record») ≡ slot-length) × (half-named (now «record») ≤ 1) ⌝ }
+    requires { ⌜ (fram-wrong fram-limit (now fram) ≡ false) × KeyLength (length (now key)) × (length (now «record») ≡ slot-length) × (half-named (now «record») ≤ 1) ⌝ }
     ensures { λ r. ⌜ check-number r ≡ first-of (power-up-half (now (key .entry)) (now («record» .entry)) (now (fram .entry)) used) ⌝ }
 {
     let half = half_at(fram, half_named(record));

@@ -9,7 +9,7 @@ use native.Mathlib.Omega.{arith}
 use borrow.Author.Tests.{eqb-true, eq-eqb, le-ltb, not-false}
 use lib.Dec.{eqb, ltb, lit<}
 use lib.ListN.{length, length-append, take, getD}
-use Rattle.octets.specs.Limits.{nonce-length, tag-length, packet-limit, part-limit, fram-limit}
+use Rattle.octets.specs.Limits.{key-lengths, nonce-length, tag-length, packet-limit, part-limit, fram-limit}
 use Rattle.octets.specs.Word.{word-at}
 use Rattle.octets.proofs.Numbers.{length-word, number-lt}
 use Rattle.stops.proofs.Laws.{passes, neither}
@@ -150,7 +150,7 @@ module _ (ring fram : List ℕ) where
       let n = read-ring ring (z .pages) (z .slots) in
       let half = newest-half ring fram (z .slots) n in
       let p = passes _ e in
-      let k = neither (key-wrong (length (a .key))) (nonce-wrong (length (a .nonce))) (p .1 .1 .0) in
+      let k = neither (key-wrong key-lengths (length (a .key))) (nonce-wrong (length (a .nonce))) (p .1 .1 .0) in
       let good = not-false (good-head part-limit (form-of half) half) (p .1 .1 .1 .1 .1 .1 .0) in
       let old = stored-in-range part-limit (form-of half) (a .key) (take nonce-length (newest-record ring (z .slots) n)) half good in
       let parts = stored-small part-limit (form-of half) (a .key) (take nonce-length (newest-record ring (z .slots) n)) half good in

@@ -6,7 +6,7 @@ use mathlib.Core.List.{List, [], _∷_}
 use lib.Dec.{eqb}
 use lib.ListN.{length}
 use borrow.Author.Tests.{ne-eqb}
-use Rattle.octets.specs.Limits.{fram-limit, tag-length}
+use Rattle.octets.specs.Limits.{key-lengths, fram-limit, tag-length}
 use Rattle.stops.specs.Stops.{first-of}
 use Rattle.ring.specs.Ring.{ring-wrong}
 use Rattle.checkpoint.specs.Fram.{fram-wrong}
@@ -29,7 +29,7 @@ pub from-in-place : (ring fram : List ℕ) (a : SaveArguments) (b : List ℕ) �
     (2, fram-wrong fram-limit fram) ∷
     (3, true) ∷ [])
 unfolding save-stop from-in from-wrong first-of
-from-in-place ring fram a b n m = rw (ne-eqb (length b) session-length m, or-true (key-wrong (length (a .key)) || nonce-wrong (length (a .nonce))) (tag-wrong (length b)) (ap not (ne-eqb (length b) tag-length n)))
+from-in-place ring fram a b n m = rw (ne-eqb (length b) session-length m, or-true (key-wrong key-lengths (length (a .key)) || nonce-wrong (length (a .nonce))) (tag-wrong (length b)) (ap not (ne-eqb (length b) tag-length n)))
 
 -- ---- jobs
 

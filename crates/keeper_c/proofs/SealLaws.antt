@@ -8,7 +8,7 @@ use native.Mathlib.Omega.{arith}
 use borrow.Author.Tests.{eqb-true, not-false}
 use lib.Dec.{eqb}
 use lib.ListN.{length}
-use Rattle.octets.specs.Limits.{tag-length}
+use Rattle.octets.specs.Limits.{key-lengths, tag-length}
 use Rattle.octets.specs.Octets.{put}
 use Rattle.octets.proofs.Lent.{over}
 use Rattle.stops.specs.Stops.{first-of}
@@ -23,12 +23,12 @@ module _ (key nonce aad text out t : List ℕ) where
   -- a tag buffer of another length
   pub no-tag : (r : ℕ) → r ≡ 3 → tag-wrong (length t) ≡ true → sealing-left r out t ≡ sealing-call key nonce aad text out t
   unfolding sealing-call sealing-by sealing-stop first-of
-  no-tag r e w = rw (or-true (key-wrong (length key) || nonce-wrong (length nonce)) _ w, e)
+  no-tag r e w = rw (or-true (key-wrong key-lengths (length key) || nonce-wrong (length nonce)) _ w, e)
 
   module _ (right : tag-wrong (length t) ≡ false) where
     stops-alike : sealing-stop key nonce aad text out t ≡ seal-stop (length key) (length nonce) (length aad) (length text) (length out)
     unfolding sealing-stop seal-stop first-of
-    stops-alike = rw (or-false (key-wrong (length key) || nonce-wrong (length nonce)) _ right)
+    stops-alike = rw (or-false (key-wrong key-lengths (length key) || nonce-wrong (length nonce)) _ right)
 
     refused-by : (S : Option ℕ) (n : ℕ) (T out′ : List ℕ) → record { stop = some n; tag = T; out = out′ } ≡ sealing-at S key nonce aad text out
         → sealing-left n out′ t ≡ sealing-by S key nonce aad text out t

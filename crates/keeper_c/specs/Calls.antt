@@ -8,6 +8,7 @@ use lib.ListN.{length}
 use Rattle.octets.specs.Octets.{put}
 use Rattle.stops.specs.Stops.{first-of, then-stop}
 use Rattle.gcm.specs.Gcm.{encrypted, tag}
+use Rattle.octets.specs.Limits.{key-lengths}
 use Rattle.gcm.specs.Calls.{key-wrong, nonce-wrong, tag-wrong, buffers-wrong}
 use Rattle.ring.specs.Ring.{ring-wrong}
 use Rattle.checkpoint.specs.Fram.{fram-wrong}
@@ -34,7 +35,7 @@ sealing-left r out tag = record { answer = r; out = out; tag = tag }
 
 unfoldable pub sealing-stop : (key nonce aad text out tag : List ℕ) → Option ℕ
 sealing-stop key nonce aad text out tag-buffer = first-of (
-    (3, key-wrong (length key) || nonce-wrong (length nonce) || tag-wrong (length tag-buffer)) ∷
+    (3, key-wrong key-lengths (length key) || nonce-wrong (length nonce) || tag-wrong (length tag-buffer)) ∷
     (4, buffers-wrong (length aad) (length text) (length out)) ∷ [])
 
 unfoldable pub sealing-by : Option ℕ → (key nonce aad text out tag : List ℕ) → Sealing

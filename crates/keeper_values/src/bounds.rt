@@ -1,26 +1,15 @@
 // The papers' bench values of the limits: what a first save says to a number of pages, a FRAM, parts of given lengths and a packet number,
 // and a power-up to a state buffer of a given length, and to a ring whose pages that are not blank do not follow each other.
 use crate::print::print;
-use crate::print::print_stop;
-use crate::values::key;
+use crate::print::print_start;
+use crate::values::long_key;
 use crate::values::starting_tag;
 use keeper::From;
-use keeper::Start;
 use keeper::from_tag;
 use keeper::power_up;
 use octets::limits::PART_LIMIT;
 use octets::part;
 ghost use Prim.Native.Nat.{_≤_};
-
-fn print_start(start: Start) {
-    match start {
-        Start::Begun => print(b": begun\n"),
-        Start::Stopped(stop) => {
-            print_stop(b": ", stop);
-            print(b"\n");
-        }
-    }
-}
 
 // Begins a save and prints what it says; staging is long enough for every FRAM that is tried.
 fn begin(
@@ -39,7 +28,7 @@ fn begin(
         2,
         ring,
         fram,
-        &key(),
+        &long_key(),
         &[1u8; 12],
         packet,
         open,
@@ -48,7 +37,8 @@ fn begin(
     );
     let start = started.start;
     print(name);
-    print_start(start);
+    print_start(b": ", start);
+    print(b"\n");
 }
 
 // A first save on a blank ring of pages of 2 slots.
@@ -93,10 +83,20 @@ fn try_tag(name: &[u8], length: usize)
 fn try_power_up(name: &[u8], ring: &[u8], state: &mut [u8]) {
     let fram = [0u8; 128];
     let mut staging = [0u8; 64];
-    let p = power_up(4, 2, ring, &fram, &key(), &[1u8; 12], &mut staging, state);
+    let p = power_up(
+        4,
+        2,
+        ring,
+        &fram,
+        &long_key(),
+        &[1u8; 12],
+        &mut staging,
+        state,
+    );
     let start = p.start;
     print(name);
-    print_start(start);
+    print_start(b": ", start);
+    print(b"\n");
 }
 
 // With a blank ring, which gives 6 where the state buffer is long enough.

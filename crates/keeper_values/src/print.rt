@@ -1,5 +1,6 @@
 // What the program writes.
 use keeper::Progress;
+use keeper::Start;
 use libc::STDOUT_FILENO;
 use octets::part;
 use stops::Stop;
@@ -16,6 +17,15 @@ pub fn print_number(name: &[u8], n: usize) {
 
 pub fn print_stop(name: &[u8], stop: Stop) {
     print_number(name, stop_number(stop) as usize);
+}
+
+// What a start said.
+pub fn print_start(name: &[u8], start: Start) {
+    print(name);
+    match start {
+        Start::Begun => print(b"begun"),
+        Start::Stopped(stop) => print_stop(b"", stop),
+    }
 }
 
 fn print_byte(b: u8) {

@@ -1,4 +1,4 @@
-// A unit with a ring of 3 pages of 2 slots, an open part of 8 bytes and a secret part of 4: its calls, each with a line that says
+// A unit with a key and a ring of 3 pages of 2 slots, an open part of 8 bytes and a secret part of 4: its calls, each with a line that says
 // what it answered, what look and its companion then give, and the ring's state.
 use crate::print::print;
 use crate::print::print_bytes;
@@ -8,7 +8,6 @@ use crate::print::print_progress;
 use crate::print::print_stop;
 use crate::values::PAGES;
 use crate::values::SLOTS;
-use crate::values::key;
 use crate::values::starting_tag;
 use keeper::Advanced;
 use keeper::From;
@@ -27,13 +26,13 @@ use libc::STDOUT_FILENO;
 use octets::limits::PART_LIMIT;
 use ring_line::ring_line;
 
-fn print_looked(ring: &[u8], fram: &[u8]) {
-    let looked = look(PAGES, SLOTS, ring, fram, &key());
+pub fn print_looked(key: &[u8], ring: &[u8], fram: &[u8]) {
+    let looked = look(PAGES, SLOTS, ring, fram, key);
     match looked {
         Looked::Restarts(n) => {
             print_number(b"; restarts ", n);
             print(b"; open part ");
-            print_bytes(open_part(PAGES, SLOTS, ring, fram, &key()));
+            print_bytes(open_part(PAGES, SLOTS, ring, fram, key));
         }
         Looked::Unseen(stop) => print_stop(b"; look stopped ", stop),
     }
@@ -47,8 +46,8 @@ fn print_ring(ring: &[u8]) {
     io::write_all(STDOUT_FILENO, &bytes[..length]);
 }
 
-pub fn print_memories(ring: &[u8], fram: &[u8]) {
-    print_looked(ring, fram);
+pub fn print_memories(key: &[u8], ring: &[u8], fram: &[u8]) {
+    print_looked(key, ring, fram);
     print_ring(ring);
 }
 
@@ -93,7 +92,8 @@ fn carry_out(
     }
 }
 
-fn start_save(
+pub fn start_save(
+    key: &[u8],
     from: From,
     packet: usize,
     value: u8,
@@ -107,7 +107,7 @@ fn start_save(
         SLOTS,
         ring,
         fram,
-        &key(),
+        key,
         &[nonce; 12],
         packet,
         &[value; 8],
@@ -118,6 +118,7 @@ fn start_save(
 
 // A save with a starting tag, and below one with a session, with a packet number of the value's.
 pub fn do_first_save(
+    key: &[u8],
     value: u8,
     nonce: u8,
     advances: usize,
@@ -127,14 +128,24 @@ pub fn do_first_save(
     print_number(b"first save of ", value as usize);
     let mut staging = [0u8; 64];
     let from = from_tag(&starting_tag());
-    let started = start_save(from, value as usize, value, nonce, ring, fram, &mut staging);
+    let started = start_save(
+        key,
+        from,
+        value as usize,
+        value,
+        nonce,
+        ring,
+        fram,
+        &mut staging,
+    );
     let none = no_session();
     let next = carry_out(started, none, advances, ring, fram, &staging);
-    print_memories(ring, fram);
+    print_memories(key, ring, fram);
     next
 }
 
 pub fn do_save(
+    key: &[u8],
     session: Session,
     value: u8,
     nonce: u8,
@@ -142,11 +153,21 @@ pub fn do_save(
     ring: &mut [u8],
     fram: &mut [u8],
 ) -> Session {
-    do_save_hearing(session, value as usize, value, nonce, advances, ring, fram)
+    do_save_hearing(
+        key,
+        session,
+        value as usize,
+        value,
+        nonce,
+        advances,
+        ring,
+        fram,
+    )
 }
 
 // A save that has last heard a packet.
 pub fn do_save_hearing(
+    key: &[u8],
     session: Session,
     packet: usize,
     value: u8,
@@ -159,29 +180,21 @@ pub fn do_save_hearing(
     print_number(b", packet ", packet);
     let mut staging = [0u8; 64];
     let from = from_session(session);
-    let started = start_save(from, packet, value, nonce, ring, fram, &mut staging);
+    let started = start_save(key, from, packet, value, nonce, ring, fram, &mut staging);
     let next = carry_out(started, session, advances, ring, fram, &staging);
-    print_memories(ring, fram);
+    print_memories(key, ring, fram);
     next
 }
 
-fn start_power_up(
+pub fn start_power_up(
+    key: &[u8],
     nonce: u8,
     ring: &[u8],
     fram: &[u8],
     staging: &mut [u8],
     state: &mut [u8],
 ) -> PoweredUp {
-    keeper::power_up(
-        PAGES,
-        SLOTS,
-        ring,
-        fram,
-        &key(),
-        &[nonce; 12],
-        staging,
-        state,
-    )
+    keeper::power_up(PAGES, SLOTS, ring, fram, key, &[nonce; 12], staging, state)
 }
 
 // Runs the job of a power-up, and prints the secret part that the state begins with.
@@ -212,6 +225,7 @@ fn carry_on(
 }
 
 pub fn do_power_up(
+    key: &[u8],
     session: Session,
     nonce: u8,
     advances: usize,
@@ -221,8 +235,8 @@ pub fn do_power_up(
     print(b"power-up");
     let mut staging = [0u8; 64];
     let mut state = [0u8; PART_LIMIT];
-    let powered = start_power_up(nonce, ring, fram, &mut staging, &mut state);
+    let powered = start_power_up(key, nonce, ring, fram, &mut staging, &mut state);
     let next = carry_on(powered, session, advances, ring, fram, &staging, &state);
-    print_memories(ring, fram);
+    print_memories(key, ring, fram);
     next
 }

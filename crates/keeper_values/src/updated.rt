@@ -1,10 +1,11 @@
 // The life of a unit whose firmware was updated. Its memories, on standard input, are those that older firmware left: a first save of 1 and a
-// power-up, with a FRAM of 128 bytes.
+// power-up, with a FRAM of 128 bytes and a key of 32, the only length that it took.
 use crate::life::STORES;
 use crate::print::print;
 use crate::unit::do_power_up;
 use crate::unit::do_save_hearing;
 use crate::unit::print_memories;
+use crate::values::long_key;
 use keeper::Session;
 use keeper::no_session;
 use libc::STDIN_FILENO;
@@ -12,30 +13,30 @@ use octets::copy;
 use octets::part;
 
 // The power-up seals the older checkpoint anew. Packet 0 is not newer than none.
-fn go_on(ring: &mut [u8], fram: &mut [u8]) -> Session {
+fn go_on(key: &[u8], ring: &mut [u8], fram: &mut [u8]) -> Session {
     let none = no_session();
-    let s = do_power_up(none, 3, STORES + 1, ring, fram);
-    do_save_hearing(s, 0, 2, 4, STORES, ring, fram)
+    let s = do_power_up(key, none, 3, STORES + 1, ring, fram);
+    do_save_hearing(key, s, 0, 2, 4, STORES, ring, fram)
 }
 
 // Packet 7 sets the restarts to 0 once; its repeat does not.
-fn hear_repeats(s: Session, ring: &mut [u8], fram: &mut [u8]) -> Session {
-    let s = do_save_hearing(s, 7, 3, 5, STORES + 1, ring, fram);
-    let s = do_power_up(s, 6, STORES, ring, fram);
-    do_save_hearing(s, 7, 4, 7, STORES + 1, ring, fram)
+fn hear_repeats(key: &[u8], s: Session, ring: &mut [u8], fram: &mut [u8]) -> Session {
+    let s = do_save_hearing(key, s, 7, 3, 5, STORES + 1, ring, fram);
+    let s = do_power_up(key, s, 6, STORES, ring, fram);
+    do_save_hearing(key, s, 7, 4, 7, STORES + 1, ring, fram)
 }
 
 // Packet 6 does not either, and 7 stays stored: packet 8 is newer.
-fn hear_newer(s: Session, ring: &mut [u8], fram: &mut [u8]) -> Session {
-    let s = do_save_hearing(s, 6, 5, 8, STORES, ring, fram);
-    let s = do_save_hearing(s, 7, 6, 9, STORES + 1, ring, fram);
-    do_save_hearing(s, 8, 7, 10, STORES, ring, fram)
+fn hear_newer(key: &[u8], s: Session, ring: &mut [u8], fram: &mut [u8]) -> Session {
+    let s = do_save_hearing(key, s, 6, 5, 8, STORES, ring, fram);
+    let s = do_save_hearing(key, s, 7, 6, 9, STORES + 1, ring, fram);
+    do_save_hearing(key, s, 8, 7, 10, STORES, ring, fram)
 }
 
-fn live_on(ring: &mut [u8], fram: &mut [u8]) {
-    let s = go_on(ring, fram);
-    let s = hear_repeats(s, ring, fram);
-    hear_newer(s, ring, fram);
+fn live_on(key: &[u8], ring: &mut [u8], fram: &mut [u8]) {
+    let s = go_on(key, ring, fram);
+    let s = hear_repeats(key, s, ring, fram);
+    hear_newer(key, s, ring, fram);
 }
 
 // The checkpoints of a FRAM of 128 bytes in one of 112, whose halves they fill.
@@ -49,17 +50,17 @@ fn closer(fram: &[u8]) -> [u8; 112] {
 }
 
 // Sealed anew they outgrow them.
-fn outgrow(ring: &mut [u8], fram: &mut [u8]) {
+fn outgrow(key: &[u8], ring: &mut [u8], fram: &mut [u8]) {
     print(b"older firmware, a FRAM of 112 bytes");
-    print_memories(ring, fram);
+    print_memories(key, ring, fram);
     let none = no_session();
-    do_power_up(none, 3, STORES, ring, fram);
+    do_power_up(key, none, 3, STORES, ring, fram);
 }
 
-fn update(ring: &mut [u8], fram: &mut [u8]) {
+fn update(key: &[u8], ring: &mut [u8], fram: &mut [u8]) {
     print(b"older firmware, a FRAM of 128 bytes");
-    print_memories(ring, fram);
-    live_on(ring, fram);
+    print_memories(key, ring, fram);
+    live_on(key, ring, fram);
 }
 
 pub fn live_updated() {
@@ -68,6 +69,7 @@ pub fn live_updated() {
     io::read_full(STDIN_FILENO, &mut ring);
     io::read_full(STDIN_FILENO, &mut fram);
     let mut small = closer(&fram);
-    outgrow(&mut ring, &mut small);
-    update(&mut ring, &mut fram);
+    let key = long_key();
+    outgrow(&key, &mut ring, &mut small);
+    update(&key, &mut ring, &mut fram);
 }

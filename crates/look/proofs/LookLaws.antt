@@ -6,13 +6,15 @@ use mathlib.Core.Option.{Option, none, some}
 use mathlib.Core.List.{List, _++_}
 use native.Mathlib.Omega.{arith}
 use lib.ListN.{length}
-use borrow.Author.Tests.{eqb-true, not-false}
+use borrow.Author.Tests.{not-false}
 use Rattle.protocol.specs.Types.{this-firmware}
-use Rattle.octets.specs.Limits.{key-length, fram-limit, part-limit}
+use Rattle.octets.specs.Limits.{fram-limit, part-limit}
 use Rattle.stops.specs.Stops.{first-of}
 use Rattle.stops.proofs.Laws.{tried, tried-first, first-append, passes}
 use Rattle.ring.specs.Ring.{Newest, ring-wrong, read-ring, newest-record, half-named}
 use Rattle.ring.proofs.NewestLaws.{newest-half-fits}
+use Rattle.gcm.specs.Calls.{KeyLength}
+use Rattle.gcm.proofs.Keys.{whole-key}
 use Rattle.checkpoint.specs.Checkpoint.{head-length}
 use Rattle.checkpoint.specs.Fram.{fram-wrong, half-length, half-at}
 use Rattle.checkpoint.proofs.FramLaws.{an-image, half-within, half-long}
@@ -63,12 +65,12 @@ module _ (pages slots : ℕ) (ring fram key : List ℕ) where
   pub record Buffers : Type 0 where
     pub ring-right : ring-wrong pages slots ring ≡ false
     pub fram-right : fram-wrong fram-limit fram ≡ false
-    pub key-long : length key ≡ key-length
+    pub key-long : KeyLength (length key)
 
   pub buffers-pass : first-of (look-buffers pages slots ring fram key) ≡ none → Buffers
   buffers-pass e =
       let p = passes _ e in
-      record { ring-right = p .0; fram-right = p .1 .0; key-long = eqb-true (length key) key-length (not-false _ (p .1 .1 .0)) }
+      record { ring-right = p .0; fram-right = p .1 .0; key-long = whole-key (length key) (p .1 .1 .0) }
 
   -- the record that was found names a half
   pub names-half : (rec : List ℕ) → rec ≡ newest → ring-wrong pages slots ring ≡ false → first-of ring-lines ≡ none → half-named rec ≤ 1

@@ -3,7 +3,7 @@ use Prim.Native.Nat.{ℕ}
 use mathlib.Core.Bool.{Bool, not}
 use mathlib.Core.List.{List, [], _∷_, _++_}
 use lib.ListN.{length, take}
-use Rattle.octets.specs.Limits.{nonce-length, part-limit}
+use Rattle.octets.specs.Limits.{key-lengths, nonce-length, part-limit}
 use Rattle.ring.specs.Ring.{half-named}
 use Rattle.checkpoint.specs.Fram.{half-at}
 use Rattle.checkpoint.specs.Half.{form-of, good-head, good-tag}
@@ -12,7 +12,7 @@ use Rattle.protocol.specs.Operations.{key-wrong}
 
 -- those about the memories and the key
 abbrev pub look-buffers : ℕ → ℕ → (ring fram key : List ℕ) → List (ℕ × Bool)
-look-buffers pages slots ring fram key = of-memories pages slots ring fram ++ ((3, key-wrong (length key)) ∷ [])
+look-buffers pages slots ring fram key = of-memories pages slots ring fram ++ ((3, key-wrong key-lengths (length key)) ∷ [])
 
 -- those about a half, sealed under a nonce
 abbrev pub of-half : (key nonce half : List ℕ) → List (ℕ × Bool)

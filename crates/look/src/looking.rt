@@ -21,10 +21,11 @@ ghost use mathlib.Core.List.{List};
 ghost use Prim.Native.Nat.{ℕ, _≤_};
 ghost use lib.ListN.{length};
 ghost use Rattle.protocol.specs.Types.{this-firmware};
-ghost use Rattle.octets.specs.Limits.{key-length, nonce-length, slot-length, part-limit, fram-limit};
+ghost use Rattle.octets.specs.Limits.{nonce-length, slot-length, part-limit, fram-limit};
 ghost use Rattle.stops.specs.Stops.{first-of};
 ghost use Rattle.stops.specs.View.{check-number, stop-number};
 ghost use Rattle.ring.specs.Ring.{half-named};
+ghost use Rattle.gcm.specs.Calls.{KeyLength};
 ghost use Rattle.checkpoint.specs.Checkpoint.{head-length};
 ghost use Rattle.checkpoint.specs.Fram.{fram-wrong};
 ghost use Rattle.checkpoint.specs.Half.{form-of, open-length, secret-length, good-head};
@@ -35,7 +36,7 @@ ghost use Rattle.look.specs.Seen.{Sees};
 
 // Stops 11 and 12 of a half, whose head was read.
 fn check_half(key: &[u8], nonce: &[u8], half: &[u8], head: Head) -> Check
-    requires { ⌜ (length (now key) ≡ key-length) × (length (now nonce) ≡ nonce-length) × (head .good ≡ good-head part-limit (form-of (now half)) (now half)) × (head .start ≡ head-length (form-of (now half))) × (head .«open» ≡ open-length (form-of (now half)) (now half)) × (head .secret ≡ secret-length (form-of (now half)) (now half)) ⌝ }
+    requires { ⌜ KeyLength (length (now key)) × (length (now nonce) ≡ nonce-length) × (head .good ≡ good-head part-limit (form-of (now half)) (now half)) × (head .start ≡ head-length (form-of (now half))) × (head .«open» ≡ open-length (form-of (now half)) (now half)) × (head .secret ≡ secret-length (form-of (now half)) (now half)) ⌝ }
     ensures { λ r. ⌜ check-number r ≡ first-of (of-half (now (key .entry)) (now (nonce .entry)) (now (half .entry))) ⌝ }
 {
     if head.good {
@@ -58,7 +59,7 @@ fn unseen(stop: Stop) -> Seen
 
 // The half that a record names: stops 11 and 12, or its restarts and open part.
 fn see_half(record: &[u8], fram: &[u8], key: &[u8]) -> Seen
-    requires { ⌜ (fram-wrong fram-limit (now fram) ≡ false) × (length (now key) ≡ key-length) × (length (now «record») ≡ slot-length) × (half-named (now «record») ≤ 1) ⌝ }
+    requires { ⌜ (fram-wrong fram-limit (now fram) ≡ false) × KeyLength (length (now key)) × (length (now «record») ≡ slot-length) × (half-named (now «record») ≤ 1) ⌝ }
     ensures { λ r. ⌜ Sees r (first-of (look-half (now (key .entry)) (now («record» .entry)) (now (fram .entry)))) (now (fram .entry)) (half-named (now («record» .entry))) ⌝ }
 {
     let number = half_named(record);

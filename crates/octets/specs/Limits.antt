@@ -1,9 +1,11 @@
 -- The limits and lengths of documents 01 and 02, each named here and, if the code needs it, in src/limits.rt. Elsewhere in the libraries one of
 -- them stands as a numeral only in the types of arrays (a nonce of 12 bytes, a tag or a slot of 16), in Layout.antt of checkpoint, which
--- gives the papers' offsets as numbers of their own, in Older.antt of protocol, which writes document 01's lists out with its limits, where aes and gcm
--- have the standards' numbers, and in Format.antt of intel_hex, which has that format's.
+-- gives the papers' offsets as numbers of their own, in Older.antt and Keys.antt of protocol, which write document 01's lists out with its
+-- limits and say which lengths of keys are taken, where aes_key, aes and gcm have the standards' numbers, and in Format.antt of intel_hex, which has
+-- that format's.
 -- Lengths are in bytes; a word is 4.
 use Prim.Native.Nat.{ℕ}
+use mathlib.Core.List.{List, [], _∷_}
 
 -- ---- the ring
 abbrev pub pages-least : ℕ
@@ -58,8 +60,20 @@ abbrev pub packet-limit : ℕ
 packet-limit = 1073741823
 
 -- ---- the cipher
-abbrev pub key-length : ℕ
-key-length = 32
+-- a key of AES-128 (document 02, A.8) and one of AES-256
+abbrev pub short-key : ℕ
+short-key = 16
+
+abbrev pub long-key : ℕ
+long-key = 32
+
+-- the lengths of keys that are taken
+abbrev pub key-lengths : List ℕ
+key-lengths = short-key ∷ long-key ∷ []
+
+-- those of firmware before A.8, document 01's
+abbrev pub older-key-lengths : List ℕ
+older-key-lengths = long-key ∷ []
 
 abbrev pub nonce-length : ℕ
 nonce-length = 12

@@ -25,8 +25,10 @@ pub const RESTART_LIMIT: usize = 8;
 
 pub const PACKET_LIMIT: usize = 1_073_741_823;
 
-// The cipher; TEXT_LIMIT is that of a text and of associated data, sealed and opened alone.
-pub const KEY_LENGTH: usize = 32;
+// The cipher: a key of AES-128 and one of AES-256; TEXT_LIMIT is that of a text and of associated data, sealed and opened alone.
+pub const SHORT_KEY: usize = 16;
+
+pub const LONG_KEY: usize = 32;
 
 pub const NONCE_LENGTH: usize = 12;
 

@@ -29,11 +29,11 @@ use Rattle.protocol.proofs.Runs.{recorded-entry}
 use Rattle.protocol.proofs.Histories.{first-save-whole}
 
 -- beside a stop the numbers don't count
-looked-by : (o p : Option ℕ) (n : ℕ) → o ≡ p → (x : ℕ) × (p ≡ some x) → look-by o n ≡ look-by p 0
+pub looked-by : (o p : Option ℕ) (n : ℕ) → o ≡ p → (x : ℕ) × (p ≡ some x) → look-by o n ≡ look-by p 0
 unfolding look-by
 looked-by o p n e (x, f) = rw (e, f)
 
-stretched-by : (o p : Option ℕ) (m n : ℕ) → o ≡ p → (x : ℕ) × (p ≡ some x) → stretch-by o m n ≡ stretch-by p 0 0
+pub stretched-by : (o p : Option ℕ) (m n : ℕ) → o ≡ p → (x : ℕ) × (p ≡ some x) → stretch-by o m n ≡ stretch-by p 0 0
 unfolding stretch-by
 stretched-by o p m n e (x, f) = rw (e, f)
 

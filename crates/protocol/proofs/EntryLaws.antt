@@ -23,7 +23,7 @@ module _ (firmware : Firmware) (ring fram : List ℕ) where
   -- a session has no length that could be wrong
   next-stop-same : (a : NextSave) → save-stop firmware ring fram (as-next a) ≡ next-save-stop firmware ring fram a
   unfolding save-stop from-wrong ring-lines next-save-stop
-  next-stop-same a = same-line (_ ∷ _ ∷ []) _ 3 _ _ (or-false (key-wrong (length (a .arguments .key)) || nonce-wrong (length (a .arguments .nonce))))
+  next-stop-same a = same-line (_ ∷ _ ∷ []) _ 3 _ _ (or-false (key-wrong (firmware .key-lengths) (length (a .arguments .key)) || nonce-wrong (length (a .arguments .nonce))))
 
   next-same : (a : NextSave) → save firmware ring fram (as-next a) ≡ next-save firmware ring fram a
   unfolding save save-checkpoint number-from restarts-from previous-tag save-target next-save next-checkpoint

@@ -10,7 +10,7 @@ use native.Mathlib.Omega.{arith}
 use lib.ListN.{replicate, length, length-replicate}
 use lib.Dec.{lit<, lit≤, eqb, ltb}
 use borrow.Author.Tests.{eq-eqb, le-ltb, not-false}
-use Rattle.octets.specs.Limits.{pages-least, slots-least, slot-length, restart-limit, packet-limit, key-length, nonce-length, tag-length}
+use Rattle.octets.specs.Limits.{pages-least, slots-least, slot-length, restart-limit, packet-limit, long-key, nonce-length, tag-length}
 use Rattle.octets.specs.Octets.{erased, blank, put, number, bytes}
 use Rattle.octets.proofs.Laws.{blank-erased}
 use Rattle.octets.proofs.Numbers.{length-bytes, number-bytes}
@@ -22,6 +22,7 @@ use Rattle.ring.proofs.RingLaws.{page-of, slot-of}
 use Rattle.ring.proofs.FoundLaws.{found, not-blank, not-unreadable, pending-is}
 use Rattle.checkpoint.proofs.SealedLaws.{empty-passes}
 use Rattle.checkpoint.proofs.StoredLaws.{packet-small}
+use Rattle.gcm.proofs.Keys.{one-length, long-taken}
 use Rattle.checkpoint.specs.Fram.{fram-wrong, half-length}
 use Rattle.checkpoint.specs.Checkpoint.{Form, Older, Longer, Checkpoint, sealed, empty-length, sealed-length}
 use Rattle.checkpoint.proofs.FramLaws.{an-image, fram-kept, half-sizes, half-kept}
@@ -73,9 +74,9 @@ length-state firmware = length-replicate {A = ℕ} (firmware .longest-part) 0
 room : (firmware : Firmware) (fram : List ℕ) → fram-wrong (firmware .largest-fram) fram ≡ false → half-length fram ≤ length (staging-room firmware)
 room firmware fram e = rw (length-staging firmware) (half-sizes (firmware .largest-fram) fram e .1)
 
-module _ (u : Setup) (key-long : length (u .key) ≡ key-length) (i : ℕ) where
-  sizes-pass : key-wrong (length (u .key)) || nonce-wrong (length (bytes nonce-length i)) ≡ false
-  sizes-pass = rw (eq-eqb (length (u .key)) key-length key-long, eq-eqb (length (bytes nonce-length i)) nonce-length (length-bytes nonce-length i))
+module _ (u : Setup) (firmware : Firmware) (keyed : key-wrong (firmware .key-lengths) (length (u .key)) ≡ false) (i : ℕ) where
+  sizes-pass : key-wrong (firmware .key-lengths) (length (u .key)) || nonce-wrong (length (bytes nonce-length i)) ≡ false
+  sizes-pass = rw (keyed, eq-eqb (length (bytes nonce-length i)) nonce-length (length-bytes nonce-length i))
 
 parts-pass : (firmware : Firmware) (fram : List ℕ) → fram-wrong (firmware .largest-fram) fram ≡ false → empty-length (firmware .form) ≤ half-length fram
     → parts-wrong firmware [] [] fram || staging-wrong (staging-room firmware) fram ≡ false
@@ -101,11 +102,11 @@ first-passes : (u : Setup) (firmware : Firmware) (ring fram : List ℕ) → blan
     → (i : ℕ) → save-stop firmware ring fram (numbered-first u firmware i) ≡ none
 unfolding save-stop from-wrong ring-lines first-of
 first-passes u firmware ring fram b f l i =
-    rw (f .ring-right, f .fram-right, sizes-pass u (f .key-right) i, parts-pass firmware fram (f .fram-right) l, packet-passes (firmware .form) 0 (lit≤ tt), b)
+    rw (f .ring-right, f .fram-right, sizes-pass u firmware (f .key-right) i, parts-pass firmware fram (f .fram-right) l, packet-passes (firmware .form) 0 (lit≤ tt), b)
 
 -- ---- each start, run to its end
 
--- n starts were recorded, the last with a checkpoint of k restarts, packet number 0 and empty parts; the firmware takes the FRAM, and a half has room for one of its form
+-- n starts were recorded, the last with a checkpoint of k restarts, packet number 0 and empty parts; the firmware takes the FRAM and the key, and a half has room for one of its form
 record Standing (u : Setup) (s : State) (n k : ℕ) : Type 0 where
   c : Checkpoint
   holds : Holds u s
@@ -116,6 +117,7 @@ record Standing (u : Setup) (s : State) (n k : ℕ) : Type 0 where
   no-open : length (c .open-part) ≡ 0
   no-secret : length (c .secret) ≡ 0
   framed : fram-wrong (s .firmware .largest-fram) (s .fram) ≡ false
+  keyed : key-wrong (s .firmware .key-lengths) (length (u .key)) ≡ false
   enough : empty-length (s .firmware .form) ≤ half-length (s .fram)
   numbers : Below n (s .nonces)
 
@@ -127,9 +129,9 @@ record After (u : Setup) (s : State) (n k : ℕ) : Type 0 where
 
 after-whole : (u : Setup) (s : State) (n : ℕ) (c : Checkpoint) (events : List Event) → Whole u s c (bytes nonce-length n) events
     → s .journal .count ≡ n → Below n (s .nonces) → n < 2 ^ 96 → c .packet ≡ 0 → length (c .open-part) ≡ 0 → length (c .secret) ≡ 0
-    → fram-wrong (s .firmware .largest-fram) (s .fram) ≡ false → empty-length (s .firmware .form) ≤ half-length (s .fram)
-    → c .form ≡ s .firmware .form → After u (run u s events) (suc n) (c .restarts)
-after-whole u s n c events w e b h z o p fr l q = record {
+    → fram-wrong (s .firmware .largest-fram) (s .fram) ≡ false → key-wrong (s .firmware .key-lengths) (length (u .key)) ≡ false
+    → empty-length (s .firmware .form) ≤ half-length (s .fram) → c .form ≡ s .firmware .form → After u (run u s events) (suc n) (c .restarts)
+after-whole u s n c events w e b h z o p fr ky l q = record {
   standing = record {
     c = c;
     holds = w .holds;
@@ -140,6 +142,7 @@ after-whole u s n c events w e b h z o p fr l q = record {
     no-open = o;
     no-secret = p;
     framed = rw (w .passed .firmware) (fram-kept (s .firmware .largest-fram) (s .fram) (run u s events .fram) (w .passed .fram-long) fr);
+    keyed = rw (w .passed .firmware) ky;
     enough = rw (w .passed .firmware, half-kept (s .fram) (run u s events .fram) (w .passed .fram-long)) l;
     numbers = rw (w .nonces) (below-more n (s .nonces) h b);
   };
@@ -183,10 +186,10 @@ module _ (u : Setup) (firmware : Firmware) (ring fram : List ℕ) (b : blank rin
   first-after : After u (run u start (to-its-end u start (saved (numbered-first u firmware 0)))) 1 0
   unfolding fresh empty save-checkpoint number-from restarts-from
   first-after = after-whole u start 0 (save-checkpoint (firmware .form) (numbered-first u firmware 0)) (to-its-end u start (saved (numbered-first u firmware 0)))
-      first-whole refl (λ m k. absurd (List·Memᴰ·not-nil k)) (lit< tt) (no-number (firmware .form) 0 refl) refl refl (f .fram-right) l refl
+      first-whole refl (λ m k. absurd (List·Memᴰ·not-nil k)) (lit< tt) (no-number (firmware .form) 0 refl) refl refl (f .fram-right) (f .key-right) l refl
 
 -- a power-up
-module _ (u : Setup) (key-long : length (u .key) ≡ key-length) (s : State) (n k : ℕ) (x : Standing u s n k) (h : n < 2 ^ 96) where
+module _ (u : Setup) (s : State) (n k : ℕ) (x : Standing u s n k) (h : n < 2 ^ 96) where
   new-here : List·Memᴰ (bytes nonce-length n) (s .nonces) → ⊥
   new-here = below-new n (s .nonces) h (x .numbers)
 
@@ -216,7 +219,7 @@ module _ (u : Setup) (key-long : length (u .key) ≡ key-length) (s : State) (n 
         let a : PowersUp = numbered-power-up u (s .firmware) n in
         let holds = x .holds in
         let r = x .entry in
-        let is = step-is u s holds a (x .c) r (stop-none u s holds a key-long (x .framed) last-here (x .c) r fewer fits) in
+        let is = step-is u s holds a (x .c) r (stop-none u s holds a (x .keyed) (x .framed) last-here (x .c) r fewer fits) in
         whole u s (powered-up a) next PowerUp (bytes nonce-length n) (record { job = resuming-job u s next; staging = put (staging-room (s .firmware)) 0 (sealed (u .key) next) })
         (refl, refl, new-here)
         (subst (λ (y : State). Holds u y) (sym is) (resuming-holds u s holds a (x .c) r (x .framed) (last-here .nonce-long) (last-here .staging) new-here fewer fits))
@@ -230,7 +233,7 @@ module _ (u : Setup) (key-long : length (u .key) ≡ key-length) (s : State) (n 
     power-after =
         let e : x .c .restarts + 1 ≡ suc k = omega (arith, x .restarts) in
         subst (λ (m : ℕ). After u (run u s (to-its-end u s (powered-up (numbered-power-up u (s .firmware) n)))) (suc n) m) e
-        (after-whole u s n next (to-its-end u s (powered-up (numbered-power-up u (s .firmware) n))) power-whole (x .count) (x .numbers) h (x .no-packet) (x .no-open) (x .no-secret) (x .framed) (x .enough) refl)
+        (after-whole u s n next (to-its-end u s (powered-up (numbered-power-up u (s .firmware) n))) power-whole (x .count) (x .numbers) h (x .no-packet) (x .no-open) (x .no-secret) (x .framed) (x .keyed) (x .enough) refl)
 
 -- ---- a save with the session handed out last
 
@@ -250,7 +253,7 @@ found-newest ring pages slots count true r o e = no-fact o
 found-newest ring pages slots count false r o e =
     is-newest ring slots (found pages slots count false) (page-of pages slots count) (slot-of slots count) r refl refl (sym e)
 
-module _ (u : Setup) (key-long : length (u .key) ≡ key-length) (s : State) (n k : ℕ) (x : After u s n k) (h : n < 2 ^ 96) (p : ℕ) (few-bits : p ≤ packet-limit) where
+module _ (u : Setup) (s : State) (n k : ℕ) (x : After u s n k) (h : n < 2 ^ 96) (p : ℕ) (few-bits : p ≤ packet-limit) where
   abbrev session-here : Session
   session-here = session-in u (s .journal .count) (x .standing .c)
 
@@ -274,7 +277,7 @@ module _ (u : Setup) (key-long : length (u .key) ≡ key-length) (s : State) (n 
       rw (
         inv .ring-right,
         x .standing .framed,
-        sizes-pass u key-long n,
+        sizes-pass u (s .firmware) (x .standing .keyed) n,
         parts-pass (s .firmware) (s .fram) (x .standing .framed) (x .standing .enough),
         packet-passes (s .firmware .form) p few-bits,
         reads (inv .fram-right) r,
@@ -283,14 +286,14 @@ module _ (u : Setup) (key-long : length (u .key) ≡ key-length) (s : State) (n 
         not-stale,
         session-passes (s .firmware .form) session-here (x .standing .entry .good .range .restarts-small) (packet-small (x .standing .c .form) (x .standing .c .packet) (x .standing .entry .good .range .packet-small)),
         pending-is (s .journal .owed) (u .sizes .pages) (u .sizes .slots) (s .journal .count) ∙ x .ended .owed,
-        new-nonce (inv .fram-right) r (bytes nonce-length n) (new-here u key-long s n k (x .standing) h),
+        new-nonce (inv .fram-right) r (bytes nonce-length n) (new-here u s n k (x .standing) h),
       )
 
   abbrev kept : Checkpoint
   kept = save-checkpoint (s .firmware .form) call-here
 
   save-whole : Whole u s kept (bytes nonce-length n) (to-its-end u s (saved call-here))
-  save-whole = saved-whole u s (x .standing .holds) (numbered-arguments u (s .firmware) n p) (from-session session-here) (new-here u key-long s n k (x .standing) h) mine save-passes
+  save-whole = saved-whole u s (x .standing .holds) (numbered-arguments u (s .firmware) n p) (from-session session-here) (new-here u s n k (x .standing) h) mine save-passes
 
   -- its restarts: with packet number 0 they carry over, and a save of the older form sets them to 0
   abbrev carried : ℕ
@@ -304,7 +307,7 @@ module _ (u : Setup) (key-long : length (u .key) ≡ key-length) (s : State) (n 
 
     save-after : After u (run u s (to-its-end u s (saved call-here))) (suc n) (save-restarts (s .firmware .form) p (x .standing .c .packet) (x .standing .c .restarts))
     unfolding save-checkpoint number-from restarts-from
-    save-after = after-whole u s n kept (to-its-end u s (saved call-here)) save-whole (x .standing .count) (x .standing .numbers) h same-packet refl refl (x .standing .framed) (x .standing .enough) refl
+    save-after = after-whole u s n kept (to-its-end u s (saved call-here)) save-whole (x .standing .count) (x .standing .numbers) h same-packet refl refl (x .standing .framed) (x .standing .keyed) (x .standing .enough) refl
 
   -- the power fails in its erase after, and leaves a page that is not blank
   module _ (left : List ℕ) (opens : ltb 0 (s .journal .count) && eqb (s .journal .count % u .sizes .slots) 0 ≡ true)
@@ -315,7 +318,7 @@ module _ (u : Setup) (key-long : length (u .key) ≡ key-length) (s : State) (n 
         let inv = x .standing .holds in
         let a = numbered-arguments u (s .firmware) n p in
         let from = from-session session-here in
-        let new = new-here u key-long s n k (x .standing) h in
+        let new = new-here u s n k (x .standing) h in
         let is = save-step u s inv a from new mine save-passes in
         lost-in-erase u s (saved call-here) kept Save (bytes nonce-length n) (made-handed u s inv a from new mine save-passes) left
         (refl, refl, new, mine) (subst (λ (y : State). Holds u y) (sym is) (save-begun u s inv a from new mine save-passes))
@@ -336,6 +339,7 @@ module _ (u : Setup) (key-long : length (u .key) ≡ key-length) (s : State) (n 
           no-open = refl;
           no-secret = refl;
           framed = rw (o .firmware) (fram-kept (s .firmware .largest-fram) (s .fram) (run u s (but-the-last u s (saved call-here) left) .fram) (o .fram-long) (x .standing .framed));
+          keyed = rw (o .firmware) (x .standing .keyed);
           enough = rw (o .firmware, half-kept (s .fram) (run u s (but-the-last u s (saved call-here) left) .fram) (o .fram-long)) (x .standing .enough);
           numbers = rw (o .nonces) (below-more n (s .nonces) h (x .standing .numbers));
         }
@@ -353,7 +357,7 @@ row-more u s xs ys n k a r = record {
   after = subst (λ (t : State). After u t n k) (sym (run-append u xs ys s)) (r .after);
 }
 
-module _ (u : Setup) (key-long : length (u .key) ≡ key-length) where
+module _ (u : Setup) where
   power-ups-row : (i n k : ℕ) (s : State) → After u s i k → k + n ≤ restart-limit → i + n < 2 ^ 96 → Row u s (power-ups-on u i n s) (i + n) (k + n)
   unfolding power-ups-on run Allowed
   power-ups-row i zero k s x few h =
@@ -365,8 +369,8 @@ module _ (u : Setup) (key-long : length (u .key) ≡ key-length) where
       let c : k < restart-limit = omega arith in
       let e : suc i + n ≡ i + suc n = omega arith in
       let e′ : suc k + n ≡ k + suc n = omega arith in
-      let more = power-ups-row (suc i) n (suc k) (run u s events) (power-after u key-long s i k (x .standing) l c) (omega arith) m in
-      row-more u s events (power-ups-on u (suc i) n (run u s events)) (i + suc n) (k + suc n) (power-whole u key-long s i k (x .standing) l c .passed)
+      let more = power-ups-row (suc i) n (suc k) (run u s events) (power-after u s i k (x .standing) l c) (omega arith) m in
+      row-more u s events (power-ups-on u (suc i) n (run u s events)) (i + suc n) (k + suc n) (power-whole u s i k (x .standing) l c .passed)
       (subst₂ (λ (a b : ℕ). Row u (run u s events) (power-ups-on u (suc i) n (run u s events)) a b) e e′ more)
 
   saves-row : (i n : ℕ) (s : State) → (k : ℕ) → After u s i k → (k ≡ 0) → i + n < 2 ^ 96 → Row u s (saves-on u i n s) (i + n) 0
@@ -375,15 +379,15 @@ module _ (u : Setup) (key-long : length (u .key) ≡ key-length) where
   saves-row i (suc n) s k x o h =
       let l : i < 2 ^ 96 = omega arith in
       let m : suc i + n < 2 ^ 96 = omega arith in
-      let events = to-its-end u s (saved (call-here u key-long s i k x l 0 (lit≤ tt))) in
-      let more = saves-row (suc i) n (run u s events) (carried u key-long s i k x l 0 (lit≤ tt)) (save-after u key-long s i k x l 0 (lit≤ tt) refl)
+      let events = to-its-end u s (saved (call-here u s i k x l 0 (lit≤ tt))) in
+      let more = saves-row (suc i) n (run u s events) (carried u s i k x l 0 (lit≤ tt)) (save-after u s i k x l 0 (lit≤ tt) refl)
       (carries-zero (s .firmware .form) (x .standing .c .packet) (x .standing .c .restarts) (x .standing .restarts ∙ o)) m in
       let e : suc i + n ≡ i + suc n = omega arith in
       let is : saves-on u i (suc n) s ≡ events ++ saves-on u (suc i) n (run u s events) =
       ap (λ (zs : List Session). with-session zs (λ z. to-its-end u s (saved (numbered-save u (s .firmware) i 0 z)) ++ saves-on u (suc i) n (run u s (to-its-end u s (saved (numbered-save u (s .firmware) i 0 z))))))
       (x .ended .session) in
       subst (λ (l : List Event). Row u s l (i + suc n) 0) (sym is)
-      (row-more u s events (saves-on u (suc i) n (run u s events)) (i + suc n) 0 (save-whole u key-long s i k x l 0 (lit≤ tt) .passed)
+      (row-more u s events (saves-on u (suc i) n (run u s events)) (i + suc n) 0 (save-whole u s i k x l 0 (lit≤ tt) .passed)
       (subst (λ (a : ℕ). Row u (run u s events) (saves-on u (suc i) n (run u s events)) a 0) e more))
 
 found-at : (pages slots count n : ℕ) (owed : Bool) → owed ≡ false → count ≡ n + 1 → found pages slots count owed ≡ At (n / slots % pages) (n % slots)
@@ -407,14 +411,14 @@ history-row u firmware ring fram b f l n k few h =
     saves = saves-on u 1 n (run u s first)
 
     rs : Row u (run u s first) saves (1 + n) 0
-    rs = saves-row u (f .key-right) 1 n (run u s first) 0 (first-after u firmware ring fram b f l) refl (omega arith)
+    rs = saves-row u 1 n (run u s first) 0 (first-after u firmware ring fram b f l) refl (omega arith)
 
     rp : Row u (run u (run u s first) saves) (power-ups-on u (n + 1) k (run u (run u s first) saves)) (n + 1 + k) k
     rp =
         let e : 1 + n ≡ n + 1 = omega arith in
         let o : 0 + k ≡ k = omega arith in
         subst (λ (m : ℕ). Row u (run u (run u s first) saves) (power-ups-on u (n + 1) k (run u (run u s first) saves)) (n + 1 + k) m) o
-        (power-ups-row u (f .key-right) (n + 1) k 0 (run u (run u s first) saves) (subst (λ (m : ℕ). After u (run u (run u s first) saves) m 0) e (rs .after))
+        (power-ups-row u (n + 1) k 0 (run u (run u s first) saves) (subst (λ (m : ℕ). After u (run u (run u s first) saves) m 0) e (rs .after))
         (omega arith) (omega arith))
 
 -- where the newest of n + 1 records is found
@@ -447,9 +451,9 @@ formed : {x y : Firmware} → x ≡ y → x .form ≡ y .form
 formed e = ap (λ (f : Firmware). f .form) e
 
 -- one save with packet number 0, of firmware of the longer form
-module _ (u : Setup) (key-long : length (u .key) ≡ key-length) (s : State) (i k : ℕ) (x : After u s i k) (h : i < 2 ^ 96) where
+module _ (u : Setup) (s : State) (i k : ℕ) (x : After u s i k) (h : i < 2 ^ 96) where
   abbrev one-save : List Event
-  one-save = to-its-end u s (saved (call-here u key-long s i k x h 0 (lit≤ tt)))
+  one-save = to-its-end u s (saved (call-here u s i k x h 0 (lit≤ tt)))
 
   one-save-is : saves-on u i 1 s ≡ one-save
   unfolding saves-on with-session
@@ -460,9 +464,9 @@ module _ (u : Setup) (key-long : length (u .key) ≡ key-length) (s : State) (i 
   one-save-after : s .firmware .form ≡ Longer → After u (run u s one-save) (suc i) k
   one-save-after f =
       subst (λ (r : ℕ). After u (run u s one-save) (suc i) r) (carries-over (s .firmware .form) (x .standing .c .packet) (x .standing .c .restarts) k f (x .standing .restarts))
-      (save-after u key-long s i k x h 0 (lit≤ tt) refl)
+      (save-after u s i k x h 0 (lit≤ tt) refl)
 
-module _ (u : Setup) (key-long : length (u .key) ≡ key-length) where
+module _ (u : Setup) where
   -- a power-up and a save
   repeat-once : (i k : ℕ) (s : State) → s .firmware .form ≡ Longer → After u s i k → k < restart-limit → suc i < 2 ^ 96
       → (rest : (t : State) → List Event) → (n m : ℕ)
@@ -472,14 +476,14 @@ module _ (u : Setup) (key-long : length (u .key) ≡ key-length) where
       let l : i < 2 ^ 96 = omega arith in
       let up = to-its-end u s (powered-up (numbered-power-up u (s .firmware) i)) in
       let t = run u s up in
-      let w = power-whole u key-long s i k (x .standing) l few in
-      let a = power-after u key-long s i k (x .standing) l few in
+      let w = power-whole u s i k (x .standing) l few in
+      let a = power-after u s i k (x .standing) l few in
       let g : t .firmware .form ≡ Longer = formed (w .passed .firmware) ∙ f in
-      let one = one-save u key-long t (suc i) (suc k) a h in
-      let v = save-whole u key-long t (suc i) (suc k) a h 0 (lit≤ tt) in
+      let one = one-save u t (suc i) (suc k) a h in
+      let v = save-whole u t (suc i) (suc k) a h 0 (lit≤ tt) in
       row-more u s up (saves-on u (suc i) 1 t ++ rest (run u t (saves-on u (suc i) 1 t))) n m (w .passed)
-      (subst (λ (events : List Event). Row u t (events ++ rest (run u t events)) n m) (sym (one-save-is u key-long t (suc i) (suc k) a h))
-      (row-more u t one (rest (run u t one)) n m (v .passed) (more (run u t one) (formed (v .passed .firmware) ∙ g) (one-save-after u key-long t (suc i) (suc k) a h g))))
+      (subst (λ (events : List Event). Row u t (events ++ rest (run u t events)) n m) (sym (one-save-is u t (suc i) (suc k) a h))
+      (row-more u t one (rest (run u t one)) n m (v .passed) (more (run u t one) (formed (v .passed .firmware) ∙ g) (one-save-after u t (suc i) (suc k) a h g))))
 
   repeats-row : (i n k : ℕ) (s : State) → s .firmware .form ≡ Longer → After u s i k → k + n ≤ restart-limit → i + 2 * n < 2 ^ 96 → Row u s (repeats-on u i n s) (i + 2 * n) (k + n)
   unfolding repeats-on run Allowed
@@ -508,7 +512,7 @@ stale-repeats u firmware longer ring fram b f enough k few =
     let first = to-its-end u s (saved (numbered-first u firmware 0)) in
     let l : empty-length (firmware .form) ≤ half-length fram = rw longer enough in
     let o : 0 + k ≡ k = omega arith in
-    let row = repeats-row u (f .key-right) 1 k 0 (run u s first) (form-kept u firmware ring fram b f l ∙ longer) (first-after u firmware ring fram b f l) (omega arith) (omega arith) in
+    let row = repeats-row u 1 k 0 (run u s first) (form-kept u firmware ring fram b f l ∙ longer) (first-after u firmware ring fram b f l) (omega arith) (omega arith) in
     let r = row-more u s first (repeats-on u 1 k (run u s first)) (1 + 2 * k) (0 + k) (first-whole u firmware ring fram b f l .passed) row in
     (r .passed .allowed, r .after .standing .entry .restarts-are ∙ r .after .standing .restarts ∙ o, omega (arith, r .after .standing .count))
 
@@ -520,16 +524,16 @@ unfolding save-restarts written-number larger
 one-heard packet restarts e = rw e (refl, refl)
 
 -- a save of firmware of the longer form that has heard packet 1
-module _ (u : Setup) (key-long : length (u .key) ≡ key-length) (s : State) (n k : ℕ) (x : After u s n k) (h : n < 2 ^ 96) (f : s .firmware .form ≡ Longer) where
+module _ (u : Setup) (s : State) (n k : ℕ) (x : After u s n k) (h : n < 2 ^ 96) (f : s .firmware .form ≡ Longer) where
   abbrev hears : List Event
-  hears = to-its-end u s (saved (call-here u key-long s n k x h 1 (lit≤ tt)))
+  hears = to-its-end u s (saved (call-here u s n k x h 1 (lit≤ tt)))
 
   heard : (Allowed u s hears) × (run u s hears .journal .power-ups ≡ 0)
       × (c : Checkpoint) × (run u s hears .journal .entry ≡ some c) × (c .restarts ≡ 0) × (c .packet ≡ 1)
   unfolding save-checkpoint number-from restarts-from
   heard =
-      let w = save-whole u key-long s n k x h 1 (lit≤ tt) in
-      let c = kept u key-long s n k x h 1 (lit≤ tt) in
+      let w = save-whole u s n k x h 1 (lit≤ tt) in
+      let c = kept u s n k x h 1 (lit≤ tt) in
       let y = one-heard (x .standing .c .packet) (x .standing .c .restarts) (x .standing .no-packet) in
       let r : c .restarts ≡ 0 = ap (λ (g : Form). save-restarts g 1 (x .standing .c .packet) (x .standing .c .restarts)) f ∙ y .0 in
       let p : c .packet ≡ 1 = ap (λ (g : Form). written-number g (larger (x .standing .c .packet) 1)) f ∙ y .1 in
@@ -562,13 +566,13 @@ newer-packet u firmware longer ring fram b f enough k few =
     small = omega arith
 
     more : List Event
-    more = hears u (f .key-right) t (k + 1) k x small (formed (row .passed .firmware) ∙ fresh-form firmware ring fram ∙ longer)
+    more = hears u t (k + 1) k x small (formed (row .passed .firmware) ∙ fresh-form firmware ring fram ∙ longer)
 
     is : newer u s k ≡ history u s 0 k ++ more
     is = ap (λ (zs : List Session). history u s 0 k ++ with-session zs (λ z. to-its-end u t (saved (numbered-save u (t .firmware) (k + 1) 1 z)))) (x .ended .session)
 
     end : (Allowed u t more) × (run u t more .journal .power-ups ≡ 0) × (c : Checkpoint) × (run u t more .journal .entry ≡ some c) × (c .restarts ≡ 0) × (c .packet ≡ 1)
-    end = heard u (f .key-right) t (k + 1) k x small (formed (row .passed .firmware) ∙ fresh-form firmware ring fram ∙ longer)
+    end = heard u t (k + 1) k x small (formed (row .passed .firmware) ∙ fresh-form firmware ring fram ∙ longer)
 
     after-all : run u s (history u s 0 k ++ more) ≡ run u t more
     after-all = run-append u (history u s 0 k) more s
@@ -588,13 +592,14 @@ newer-packet u firmware longer ring fram b f enough k few =
 
 pub in-order : InOrder
 unfolding InOrder
-in-order = (record { heads = tt; parts = lit≤ tt }, record { heads = tt; parts = lit≤ tt }, record { heads = tt; parts = lit≤ tt })
+in-order = (record { heads = tt; parts = lit≤ tt }, record { heads = tt; parts = lit≤ tt }, record { heads = tt; parts = lit≤ tt }, record { heads = tt; parts = lit≤ tt })
 
--- what stands before it stands after it, where the next firmware takes the FRAM and halves have room for its form
+-- what stands before it stands after it, where the next firmware takes the FRAM and the key and halves have room for its form
 updated-standing : (u : Setup) (s : State) (next : Firmware) (n k : ℕ) → Standing u s n k → Succeeds (s .firmware) next
-    → fram-wrong (next .largest-fram) (s .fram) ≡ false → empty-length (next .form) ≤ half-length (s .fram) → Standing u (step u s (updated-to next)) n k
+    → fram-wrong (next .largest-fram) (s .fram) ≡ false → key-wrong (next .key-lengths) (length (u .key)) ≡ false
+    → empty-length (next .form) ≤ half-length (s .fram) → Standing u (step u s (updated-to next)) n k
 unfolding step left-by entered dropped
-updated-standing u s next n k x g fr l = record {
+updated-standing u s next n k x g fr ky l = record {
   c = x .c;
   holds = hold-updated u s (x .holds) next g;
   entry = x .entry;
@@ -604,6 +609,7 @@ updated-standing u s next n k x g fr l = record {
   no-open = x .no-open;
   no-secret = x .no-secret;
   framed = fr;
+  keyed = ky;
   enough = l;
   numbers = x .numbers;
 }
@@ -657,16 +663,16 @@ updates u firmware next g ring fram b f f′ l l′ m k few = (allowed, counted,
     framed = fram-kept (next .largest-fram) fram (run u s older .fram) (row .passed .fram-long) (f′ .fram-right)
 
     stands : Standing u t (m + 1) m
-    stands = let e : 0 + 1 + m ≡ m + 1 = omega arith in subst (λ (n : ℕ). Standing u t n m) e (updated-standing u (run u s older) next (0 + 1 + m) m (row .after .standing) succeeds framed enough)
+    stands = let e : 0 + 1 + m ≡ m + 1 = omega arith in subst (λ (n : ℕ). Standing u t n m) e (updated-standing u (run u s older) next (0 + 1 + m) m (row .after .standing) succeeds framed (f′ .key-right) enough)
 
     first : After u (run u t up) (suc (m + 1)) (suc m)
-    first = power-after u (f .key-right) t (m + 1) m stands (omega arith) (omega arith)
+    first = power-after u t (m + 1) m stands (omega arith) (omega arith)
 
     rest : Row u (run u t up) (power-ups-on u (suc (m + 1)) k (run u t up)) (suc (m + 1) + k) (suc m + k)
-    rest = power-ups-row u (f .key-right) (suc (m + 1)) k (suc m) (run u t up) first (omega arith) (omega arith)
+    rest = power-ups-row u (suc (m + 1)) k (suc m) (run u t up) first (omega arith) (omega arith)
 
     all : Row u t (power-ups-on u (m + 1) (suc k) t) (suc (m + 1) + k) (suc m + k)
-    all = row-more u t up (power-ups-on u (suc (m + 1)) k (run u t up)) (suc (m + 1) + k) (suc m + k) (power-whole u (f .key-right) t (m + 1) m stands (omega arith) (omega arith) .passed) rest
+    all = row-more u t up (power-ups-on u (suc (m + 1)) k (run u t up)) (suc (m + 1) + k) (suc m + k) (power-whole u t (m + 1) m stands (omega arith) (omega arith) .passed) rest
 
     is : run u s (updating u s next m (suc k)) ≡ run u t (power-ups-on u (m + 1) (suc k) t)
     is = run-updated u next older (power-ups-on u (m + 1) (suc k) t) s
@@ -683,18 +689,14 @@ updates u firmware next g ring fram b f f′ l l′ m k few = (allowed, counted,
     now : run u s (updating u s next m (suc k)) .firmware ≡ next
     now = ap (λ (y : State). y .firmware) is ∙ all .passed .firmware ∙ updated-firmware u (run u s older) next
 
--- firmware that takes so small a FRAM
+-- firmware that takes so small a FRAM, and a key of 32 bytes
 abbrev Takes : Firmware → Form → Type 0
-Takes firmware room = 2 * empty-length room ≤ firmware .largest-fram
+Takes firmware room = (2 * empty-length room ≤ firmware .largest-fram) × (key-wrong (firmware .key-lengths) long-key ≡ false)
 
 smallest-fits : (firmware : Firmware) (room : Form) → Takes firmware room → Fits smallest firmware (erased (slot-length * 6)) (bench-fram room)
 unfolding smallest ring-wrong fram-wrong
-smallest-fits firmware Older l = record { ring-right = refl; fram-right = rw (le-ltb (firmware .largest-fram) 88 (omega arith)); key-right = refl }
-smallest-fits firmware Longer l = record { ring-right = refl; fram-right = rw (le-ltb (firmware .largest-fram) 96 (omega arith)); key-right = refl }
-
-key-ok : length (smallest .key) ≡ key-length
-unfolding smallest
-key-ok = refl
+smallest-fits firmware Older l = record { ring-right = refl; fram-right = rw (le-ltb (firmware .largest-fram) 88 (omega arith)); key-right = l .1 }
+smallest-fits firmware Longer l = record { ring-right = refl; fram-right = rw (le-ltb (firmware .largest-fram) 96 (omega arith)); key-right = l .1 }
 
 smallest-room : (form : Form) → empty-length form ≤ half-length (bench-fram form)
 unfolding half-length
@@ -726,7 +728,7 @@ module _ (firmware : Firmware) (room : Form) (takes : Takes firmware room) (enou
   resting = run smallest (bench-state firmware room) (two firmware room)
 
   abbrev third : Saves
-  third = call-here smallest key-ok resting 2 0 (two-row .after) (lit< tt) 0 (lit≤ tt)
+  third = call-here smallest resting 2 0 (two-row .after) (lit< tt) 0 (lit≤ tt)
 
   abbrev losing : List Event
   losing = but-the-last smallest resting (saved third) zeros
@@ -744,12 +746,12 @@ module _ (firmware : Firmware) (room : Form) (takes : Takes firmware room) (enou
   page-used = refl
 
   lost-there : Allowed smallest resting losing
-      × Owing smallest resting (run smallest resting losing) (kept smallest key-ok resting 2 0 (two-row .after) (lit< tt) 0 (lit≤ tt)) (bytes nonce-length 2)
-  lost-there = save-lost smallest key-ok resting 2 0 (two-row .after) (lit< tt) 0 (lit≤ tt) zeros page-opens page-long page-used
+      × Owing smallest resting (run smallest resting losing) (kept smallest resting 2 0 (two-row .after) (lit< tt) 0 (lit≤ tt)) (bytes nonce-length 2)
+  lost-there = save-lost smallest resting 2 0 (two-row .after) (lit< tt) 0 (lit≤ tt) zeros page-opens page-long page-used
 
   standing-there : Standing smallest (run smallest resting losing) 3 0
   standing-there = subst (λ (k : ℕ). Standing smallest (run smallest resting losing) 3 k) (carries-zero (resting .firmware .form) (two-row .after .standing .c .packet) (two-row .after .standing .c .restarts) (two-row .after .standing .restarts))
-      (standing-lost smallest key-ok resting 2 0 (two-row .after) (lit< tt) 0 (lit≤ tt) zeros page-opens page-long page-used refl)
+      (standing-lost smallest resting 2 0 (two-row .after) (lit< tt) 0 (lit≤ tt) zeros page-opens page-long page-used refl)
 
   interrupted-is : interrupted firmware room ≡ two firmware room ++ losing
   unfolding interrupted with-session
@@ -777,19 +779,19 @@ module _ (s : State) (x : Standing smallest s 3 0) (o : s .journal .owed ≡ tru
   unfolding job-of first-phase
   power-up-erases =
       ap (λ (b : Begin). b .job .phase)
-      (power-up-begins smallest s (x .holds) (numbered-power-up smallest (s .firmware) 3) key-ok (x .framed) (last-here smallest key-ok s 3 0 x (lit< tt)) (x .c) (x .entry)
-      (fewer smallest key-ok s 3 0 x (lit< tt) (lit< tt)) (fits smallest key-ok s 3 0 x (lit< tt) (lit< tt)))
+      (power-up-begins smallest s (x .holds) (numbered-power-up smallest (s .firmware) 3) (x .keyed) (x .framed) (last-here smallest s 3 0 x (lit< tt)) (x .c) (x .entry)
+      (fewer smallest s 3 0 x (lit< tt) (lit< tt)) (fits smallest s 3 0 x (lit< tt) (lit< tt)))
       ∙ ap first-phase found-pending
 
   abbrev resumes : List Event
   resumes = to-its-end smallest s (powered-up (numbered-power-up smallest (s .firmware) 3))
 
   resumes-allowed : Allowed smallest s resumes
-  resumes-allowed = power-whole smallest key-ok s 3 0 x (lit< tt) (lit< tt) .passed .allowed
+  resumes-allowed = power-whole smallest s 3 0 x (lit< tt) (lit< tt) .passed .allowed
 
   resumes-newest : read-ring (run smallest s resumes .ring) pages-least slots-least ≡ At 1 1
   unfolding smallest
-  resumes-newest = newest-found smallest (run smallest s resumes) 3 4 1 (power-after smallest key-ok s 3 0 x (lit< tt) (lit< tt)) refl
+  resumes-newest = newest-found smallest (run smallest s resumes) 3 4 1 (power-after smallest s 3 0 x (lit< tt) (lit< tt)) refl
 
 -- after that loss
 module _ (firmware : Firmware) (room : Form) (takes : Takes firmware room) (enough : empty-length (firmware .form) ≤ half-length (bench-fram room)) where
@@ -814,14 +816,17 @@ module _ (firmware : Firmware) (room : Form) (takes : Takes firmware room) (enou
 
 pub examples : Examples
 unfolding Examples bench-state Reachable
-examples firmware l = (
-  reachable smallest firmware smallest-ring (bench-fram form) (blank-erased (slot-length * 6)) (smallest-fits firmware form l) (smallest-room form) 0 8 (lit≤ tt) (lit< tt),
-  reachable smallest firmware smallest-ring (bench-fram form) (blank-erased (slot-length * 6)) (smallest-fits firmware form l) (smallest-room form) 6 0 (lit≤ tt) (lit< tt),
-  interrupted-example firmware form l (smallest-room form),
+examples firmware room takes-key = (
+  reachable smallest firmware smallest-ring (bench-fram form) (blank-erased (slot-length * 6)) (smallest-fits firmware form takes) (smallest-room form) 0 8 (lit≤ tt) (lit< tt),
+  reachable smallest firmware smallest-ring (bench-fram form) (blank-erased (slot-length * 6)) (smallest-fits firmware form takes) (smallest-room form) 6 0 (lit≤ tt) (lit< tt),
+  interrupted-example firmware form takes (smallest-room form),
 )
   where
     form : Form
     form = firmware .form
+
+    takes : Takes firmware form
+    takes = (room, takes-key)
 
 -- ---- the same power loss, with an update
 
@@ -831,20 +836,20 @@ module _ (s : State) (x : Standing smallest s 3 0) (f : s .firmware .form ≡ Lo
   up = to-its-end smallest s (powered-up (numbered-power-up smallest (s .firmware) 3))
 
   up-after : After smallest (run smallest s up) 4 1
-  up-after = power-after smallest key-ok s 3 0 x (lit< tt) (lit< tt)
+  up-after = power-after smallest s 3 0 x (lit< tt) (lit< tt)
 
   up-passed : Passed smallest s up
-  up-passed = power-whole smallest key-ok s 3 0 x (lit< tt) (lit< tt) .passed
+  up-passed = power-whole smallest s 3 0 x (lit< tt) (lit< tt) .passed
 
   up-and-save : Row smallest s (up ++ saves-on smallest 4 1 (run smallest s up)) 5 1
   up-and-save =
       let t = run smallest s up in
       let g = formed (up-passed .firmware) ∙ f in
       row-more smallest s up (saves-on smallest 4 1 t) 5 1 up-passed
-      (subst (λ (events : List Event). Row smallest t events 5 1) (sym (one-save-is smallest key-ok t 4 1 up-after (lit< tt)))
+      (subst (λ (events : List Event). Row smallest t events 5 1) (sym (one-save-is smallest t 4 1 up-after (lit< tt)))
       (record {
-        passed = save-whole smallest key-ok t 4 1 up-after (lit< tt) 0 (lit≤ tt) .passed;
-        after = one-save-after smallest key-ok t 4 1 up-after (lit< tt) g;
+        passed = save-whole smallest t 4 1 up-after (lit< tt) 0 (lit≤ tt) .passed;
+        after = one-save-after smallest t 4 1 up-after (lit< tt) g;
       }))
 
 fifth-place : (s : State) → After smallest s 5 1 → read-ring (s .ring) pages-least slots-least ≡ At 2 0
@@ -863,8 +868,15 @@ lost-long firmware room takes enough =
 
 -- document 01's firmware takes the FRAM of 96 bytes, and this one succeeds it
 first-takes : (room : Form) → Takes first-firmware room
-first-takes Older = lit≤ tt
-first-takes Longer = lit≤ tt
+first-takes Older = (lit≤ tt, one-length long-key long-key)
+first-takes Longer = (lit≤ tt, one-length long-key long-key)
+
+this-takes : (room : Form) → Takes this-firmware room
+this-takes Older = (lit≤ tt, long-taken)
+this-takes Longer = (lit≤ tt, long-taken)
+
+smallest-keyed : key-wrong (this-firmware .key-lengths) (length (smallest .key)) ≡ false
+smallest-keyed = smallest-fits this-firmware Longer (this-takes Longer) .key-right
 
 succeeds-first : Succeeds first-firmware this-firmware
 succeeds-first = record { heads = tt; parts = lit≤ tt }
@@ -911,10 +923,10 @@ updated-in-erase = record {
     succeeds = rw (lost-firmware first-firmware Longer takes older-room) succeeds-first
 
     framed : fram-wrong (this-firmware .largest-fram) (s .fram) ≡ false
-    framed = fram-kept (this-firmware .largest-fram) (bench-fram Longer) (s .fram) long (smallest-fits this-firmware Longer (lit≤ tt) .fram-right)
+    framed = fram-kept (this-firmware .largest-fram) (bench-fram Longer) (s .fram) long (smallest-fits this-firmware Longer (this-takes Longer) .fram-right)
 
     x : Standing smallest t 3 0
-    x = updated-standing smallest s this-firmware 3 0 (lost-standing first-firmware Longer takes older-room) succeeds framed enough
+    x = updated-standing smallest s this-firmware 3 0 (lost-standing first-firmware Longer takes older-room) succeeds framed smallest-keyed enough
 
     longer : t .firmware .form ≡ Longer
     longer = formed (updated-firmware smallest s this-firmware)
@@ -942,7 +954,7 @@ unfolding step left-by entered dropped half-length
 outgrown-at s n k x g h few long =
     let t = step smallest s (updated-to this-firmware) in
     let inv = hold-updated smallest s (x .holds) this-firmware g in
-    let framed : fram-wrong (this-firmware .largest-fram) (s .fram) ≡ false = fram-kept (this-firmware .largest-fram) (bench-fram Older) (s .fram) long (smallest-fits this-firmware Older (lit≤ tt) .fram-right) in
+    let framed : fram-wrong (this-firmware .largest-fram) (s .fram) ≡ false = fram-kept (this-firmware .largest-fram) (bench-fram Older) (s .fram) long (smallest-fits this-firmware Older (this-takes Older) .fram-right) in
     let new : List·Memᴰ (bytes nonce-length n) (s .nonces) → ⊥ = below-new n (s .nonces) h (x .numbers) in
     let l : Last smallest t (numbered-power-up smallest this-firmware n) = record {
       sizes = refl;
@@ -952,7 +964,7 @@ outgrown-at s n k x g h few long =
       staging = room this-firmware (s .fram) framed;
       state = rw (length-state this-firmware) (omega arith);
     } in
-    let o = outcome smallest t inv (numbered-power-up smallest this-firmware n) key-ok framed l in
+    let o = outcome smallest t inv (numbered-power-up smallest this-firmware n) smallest-keyed framed l in
     o .outgrown .1 (x .c, x .entry .entry-is, (λ q. omega (arith, x .entry .restarts-are, x .restarts)), rw (resealed-long smallest t (numbered-power-up smallest this-firmware n) (x .c), x .no-open, x .no-secret) (omega (arith, long)))
 
 pub outgrown-example : OutgrownExample

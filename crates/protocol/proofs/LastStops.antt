@@ -7,7 +7,7 @@ use mathlib.Core.List.{[], _∷_, _++_}
 use lib.ListN.{length}
 use lib.Dec.{eqb, ltb}
 use borrow.Author.Tests.{eq-eqb, le-ltb}
-use Rattle.octets.specs.Limits.{restart-limit, key-length, nonce-length}
+use Rattle.octets.specs.Limits.{restart-limit, nonce-length}
 use Rattle.octets.specs.Octets.{blank}
 use Rattle.stops.specs.Stops.{first-of}
 use Rattle.ring.specs.Ring.{nonce-used}
@@ -43,10 +43,10 @@ pub answer-is : (firmware : Firmware) (s : State) (a : PowersUp) (o : Option ℕ
 unfolding Exact fresh
 answer-is firmware s a o e = exact (fresh firmware (s .ring) (s .fram)) (powered-up a) .0 ∙ ap start-answer e
 
-module _ (u : Setup) (s : State) (inv : Holds u s) (a : PowersUp) (key-long : length (u .key) ≡ key-length)
+module _ (u : Setup) (s : State) (inv : Holds u s) (a : PowersUp) (keyed : key-wrong (s .firmware .key-lengths) (length (u .key)) ≡ false)
     (framed : fram-wrong (s .firmware .largest-fram) (s .fram) ≡ false) (l : AnyNonce u s (power-call u a)) where
-  sizes-pass : key-wrong (length (u .key)) || nonce-wrong (length (a .nonce)) ≡ false
-  sizes-pass = rw (eq-eqb (length (u .key)) key-length key-long, eq-eqb (length (a .nonce)) nonce-length (l .nonce-long))
+  sizes-pass : key-wrong (s .firmware .key-lengths) (length (u .key)) || nonce-wrong (length (a .nonce)) ≡ false
+  sizes-pass = rw (keyed, eq-eqb (length (a .nonce)) nonce-length (l .nonce-long))
 
   buffers-pass : (o : Order) → staging-wrong (a .staging) (s .fram) || state-wrong (ordered o (s .firmware)) (a .state) ≡ false
   unfolding staging-wrong state-wrong

@@ -30,3 +30,4 @@ pub mod EntryLaws
 pub mod OlderLaws
 pub mod BeyondLaws
 pub mod OrderLaws
+pub mod KeyLaws

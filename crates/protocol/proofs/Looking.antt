@@ -1,15 +1,12 @@
 -- What look and its companion answer after any list.
 use Prim.Native.Nat.{ℕ, _+_, _*_, _≤_}
 use mathlib.Core.Path.{_≡_, sym, subst, _∙_}
-use mathlib.Core.Bool.{true, false, not}
+use mathlib.Core.Bool.{true, false}
 use mathlib.Core.Logic.{inl, inr}
 use mathlib.Core.Option.{none, some}
 use native.Mathlib.Omega.{arith}
 use mathlib.Core.List.{List}
 use lib.ListN.{length}
-use lib.Dec.{eqb}
-use borrow.Author.Tests.{eq-eqb}
-use Rattle.octets.specs.Limits.{key-length}
 use Rattle.octets.specs.Octets.{part, blank}
 use Rattle.stops.specs.Stops.{first-of}
 use Rattle.ring.specs.Ring.{Newest, half-named, newest-record}
@@ -21,20 +18,17 @@ use Rattle.checkpoint.specs.Fram.{fram-wrong, half-length}
 use Rattle.checkpoint.proofs.HalfLaws.{open-stretched}
 use Rattle.protocol.specs.Types.{Restarts}
 use Rattle.protocol.specs.Calls.{Setup}
-use Rattle.protocol.specs.Operations.{newest-half, look-stop, look-by, look, stretch-by, open-stretch, stretch-of}
+use Rattle.protocol.specs.Operations.{key-wrong, newest-half, look-stop, look-by, look, stretch-by, open-stretch, stretch-of}
 use Rattle.protocol.specs.History.{State}
 use Rattle.protocol.specs.Recovery.{looks, Seen}
 use Rattle.protocol.proofs.Invariant.{ReadBy, DurableAt, Holds}
 use Rattle.protocol.proofs.Reading.{reads, head-found, tag-found, restarts-found, read-found, open-length-found, open-found}
 use Rattle.protocol.proofs.PowerUps.{Entry}
 
-module _ (u : Setup) (s : State) (inv : Holds u s) (framed : fram-wrong (s .firmware .largest-fram) (s .fram) ≡ false) (key-long : length (u .key) ≡ key-length) where
-  key-passes : not (eqb (length (u .key)) key-length) ≡ false
-  key-passes = rw (eq-eqb (length (u .key)) key-length key-long)
-
+module _ (u : Setup) (s : State) (inv : Holds u s) (framed : fram-wrong (s .firmware .largest-fram) (s .fram) ≡ false) (keyed : key-wrong (s .firmware .key-lengths) (length (u .key)) ≡ false) where
   look-blank : blank (s .ring) ≡ true → look-stop (s .firmware) (s .ring) (s .fram) (looks u) ≡ some 6
   unfolding look-stop first-of
-  look-blank b = rw (inv .ring-right, framed, key-passes, read-blank (u .sizes .pages) (u .sizes .slots) (s .ring) (inv .ring-right) b)
+  look-blank b = rw (inv .ring-right, framed, keyed, read-blank (u .sizes .pages) (u .sizes .slots) (s .ring) (inv .ring-right) b)
 
   module _ (c : Checkpoint) (r : Entry u s c) where
     abbrev n : Newest
@@ -49,7 +43,7 @@ module _ (u : Setup) (s : State) (inv : Holds u s) (framed : fram-wrong (s .firm
         rw (
           inv .ring-right,
           framed,
-          key-passes,
+          keyed,
           reads (inv .fram-right) r,
           not-blank (s .journal .owed) (u .sizes .pages) (u .sizes .slots) (s .journal .count),
           not-unreadable (s .journal .owed) (u .sizes .pages) (u .sizes .slots) (s .journal .count),

@@ -9,14 +9,14 @@ use native.Mathlib.Omega.{arith}
 use lib.ListN.{length}
 use lib.Dec.{eqb, lit<}
 use borrow.Author.Tests.{eq-eqb, eqb-true, eqb-false, ltb-true, ltb-false}
-use Rattle.octets.specs.Limits.{restart-limit, key-length}
+use Rattle.octets.specs.Limits.{restart-limit}
 use Rattle.stops.specs.Stops.{first-of}
 use Rattle.ring.specs.Ring.{nonce-used}
 use Rattle.checkpoint.specs.Checkpoint.{Checkpoint, sealed-length}
 use Rattle.checkpoint.specs.Fram.{fram-wrong, half-length}
 use Rattle.protocol.specs.Types.{Order, NonceFirst, HalfFirst, Firmware, Start, Begun, Stopped}
 use Rattle.protocol.specs.Calls.{PowersUp, Setup, powered-up}
-use Rattle.protocol.specs.Operations.{Begin, state-wrong, parts-wrong, newest-in, in-turn, half-lines, newest-checkpoint, ring-lines, save-stop, save, power-up-stop, power-up, look-stop, look, open-stretch, advance-stop, advance}
+use Rattle.protocol.specs.Operations.{key-wrong, Begin, state-wrong, parts-wrong, newest-in, in-turn, half-lines, newest-checkpoint, ring-lines, save-stop, save, power-up-stop, power-up, look-stop, look, open-stretch, advance-stop, advance}
 use Rattle.protocol.specs.History.{State, fresh, run}
 use Rattle.protocol.specs.Recovery.{start-answer, Started, Exact, Outgrown}
 use Rattle.protocol.specs.Orders.{ordered, Together, OthersSame, OrdersCompared, AnyNonce, Answers, WornAndUsed, WornWhateverNonce}
@@ -83,7 +83,7 @@ orders-compared firmware ring fram = (
 
 -- ---- after a list, whatever the nonce
 
-module _ (u : Setup) (s : State) (inv : Holds u s) (a : PowersUp) (key-long : length (u .key) ≡ key-length)
+module _ (u : Setup) (s : State) (inv : Holds u s) (a : PowersUp) (keyed : key-wrong (s .firmware .key-lengths) (length (u .key)) ≡ false)
     (framed : fram-wrong (s .firmware .largest-fram) (s .fram) ≡ false) (l : AnyNonce u s (power-call u a)) where
   abbrev used : Bool
   used = nonce-used (s .ring) (u .sizes .slots) (newest-in (s .ring) (u .sizes)) (a .nonce)
@@ -95,12 +95,12 @@ module _ (u : Setup) (s : State) (inv : Holds u s) (a : PowersUp) (key-long : le
     stop-is : (c : Checkpoint) → Entry u s c
         → power-up-stop (s .firmware) (s .ring) (s .fram) (power-call u a) ≡ cond (eqb (c .restarts) restart-limit) (some 13) (cond used (some 10) (cond (large s c) (some 4) none))
     unfolding first-of
-    stop-is c r = stop-entry u s inv a key-long framed l (s .firmware .order) c r ∙ rw half-first
+    stop-is c r = stop-entry u s inv a keyed framed l (s .firmware .order) c r ∙ rw half-first
 
     answers-blank : Untouched (s .ring) (s .journal .entry) (s .journal .count) (s .journal .owed) (s .journal .power-ups) → Answers u s (power-call u a)
     unfolding start-answer
     answers-blank x =
-        let e : answer ≡ Stopped 6 = answer-is (s .firmware) s (power-call u a) (some 6) (stop-blank u s inv a key-long framed l (x .ring-blank)) in
+        let e : answer ≡ Stopped 6 = answer-is (s .firmware) s (power-call u a) (some 6) (stop-blank u s inv a keyed framed l (x .ring-blank)) in
         record {
           nothing = (λ q. x .no-entry, λ q. e);
           worn = (λ q. absurd (let z : _≡_ {A = ℕ} 0 1 = cc in omega arith), λ q. absurd (omega (arith, x .no-power-up)));
@@ -189,7 +189,7 @@ module _ (u : Setup) (s : State) (inv : Holds u s) (a : PowersUp) (key-long : le
       let is-worn : eqb (c .restarts) restart-limit ≡ true = eq-eqb (c .restarts) restart-limit (sym (r .restarts-are) ∙ w) in
       let stop : (o : Order) → power-up-stop (ordered o (s .firmware)) (s .ring) (s .fram) (power-call u a)
       ≡ first-of (in-turn o (10, true) ((11, false) ∷ (12, false) ∷ (13, true) ∷ []) ++ (4, large s c) ∷ []) =
-      λ o. stop-entry u s inv a key-long framed l o c r
+      λ o. stop-entry u s inv a keyed framed l o c r
       ∙ (λ i. first-of (in-turn o (10, is-used i) ((11, false) ∷ (12, false) ∷ (13, is-worn i) ∷ []) ++ (4, large s c) ∷ [])) in (
         answer-is (ordered NonceFirst (s .firmware)) s (power-call u a) (some 10) (stop NonceFirst),
         answer-is (ordered HalfFirst (s .firmware)) s (power-call u a) (some 13) (stop HalfFirst),

@@ -148,7 +148,7 @@ power-passes : (u : Setup) (firmware : Firmware) (ring fram : List ℕ) (a : Pow
 unfolding power-up-stop half-lines staging-wrong
 power-passes u firmware ring fram a e =
     let p = passes _ (none-in-turn (_ ∷ _ ∷ _ ∷ _ ∷ _ ∷ _ ∷ []) _ (_ ∷ []) _ (firmware .order) e) in
-    let lengths = neither (key-wrong (length (u .key))) (nonce-wrong (length (a .nonce))) (p .1 .1 .0) in
+    let lengths = neither (key-wrong (firmware .key-lengths) (length (u .key))) (nonce-wrong (length (a .nonce))) (p .1 .1 .0) in
     let buffers = neither _ _ (p .1 .1 .1 .0) in
     let found = p .1 .1 .1 .1 in
     record {

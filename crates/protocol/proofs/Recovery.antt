@@ -9,7 +9,7 @@ use native.Mathlib.Omega.{arith}
 use lib.ListN.{length}
 use lib.Dec.{eqb, ltb}
 use borrow.Author.Tests.{eq-eqb, ne-eqb, le-ltb, lt-ltb, eqb-true, eqb-false, ltb-true, ltb-false}
-use Rattle.octets.specs.Limits.{restart-limit, key-length}
+use Rattle.octets.specs.Limits.{restart-limit}
 use Rattle.octets.specs.Octets.{put, blank}
 use Rattle.stops.specs.Stops.{first-of}
 use Rattle.ring.specs.Ring.{ring-wrong, nonce-used}
@@ -18,7 +18,7 @@ use Rattle.checkpoint.specs.Checkpoint.{Checkpoint, sealed, sealed-length}
 use Rattle.checkpoint.specs.Fram.{fram-wrong, half-length}
 use Rattle.protocol.specs.Types.{Firmware, PowerUp, Begun, Stopped}
 use Rattle.protocol.specs.Calls.{PowersUp, Setup, Event, powered-up}
-use Rattle.protocol.specs.Operations.{newest-in, Begin, begin, power-up-stop, power-up}
+use Rattle.protocol.specs.Operations.{key-wrong, newest-in, Begin, begin, power-up-stop, power-up}
 use Rattle.protocol.specs.Journal.{Store, drafted, stores-of, power-up-draft}
 use Rattle.protocol.specs.History.{State, fresh, step, run, Allowed}
 use Rattle.protocol.specs.Orders.{AnyNonce}
@@ -36,7 +36,7 @@ use Rattle.protocol.proofs.Looking.{seen}
 
 -- ---- what the last power-up answers
 
-module _ (u : Setup) (s : State) (inv : Holds u s) (a : PowersUp) (key-long : length (u .key) ≡ key-length)
+module _ (u : Setup) (s : State) (inv : Holds u s) (a : PowersUp) (keyed : key-wrong (s .firmware .key-lengths) (length (u .key)) ≡ false)
     (framed : fram-wrong (s .firmware .largest-fram) (s .fram) ≡ false) (l : Last u s (power-call u a)) where
   any : AnyNonce u s (power-call u a)
   any = record { sizes = l .sizes; key = l .key; nonce-long = l .nonce-long; staging = l .staging; state = l .state }
@@ -50,13 +50,13 @@ module _ (u : Setup) (s : State) (inv : Holds u s) (a : PowersUp) (key-long : le
   pub stop-recorded : (c : Checkpoint) → Entry u s c
       → stop ≡ cond (eqb (c .restarts) restart-limit) (some 13) (cond (ltb (half-length (s .fram)) (sealed-length (s .firmware .form) (length (c .open-part)) (length (c .secret)))) (some 4) none)
   unfolding first-of
-  stop-recorded c r = stop-entry u s inv a key-long framed any (s .firmware .order) c r ∙ new-in-turn (s .firmware .order) _ _ 10 (unused c r)
+  stop-recorded c r = stop-entry u s inv a keyed framed any (s .firmware .order) c r ∙ new-in-turn (s .firmware .order) _ _ 10 (unused c r)
 
   -- with nothing recorded
   outcome-blank : Untouched (s .ring) (s .journal .entry) (s .journal .count) (s .journal .owed) (s .journal .power-ups) → Outcome u s (power-call u a)
   unfolding start-answer
   outcome-blank x =
-      let e : power-up (s .firmware) (s .ring) (s .fram) (power-call u a) .answer ≡ Stopped 6 = answer-is (s .firmware) s (power-call u a) (some 6) (stop-blank u s inv a key-long framed any (x .ring-blank)) in
+      let e : power-up (s .firmware) (s .ring) (s .fram) (power-call u a) .answer ≡ Stopped 6 = answer-is (s .firmware) s (power-call u a) (some 6) (stop-blank u s inv a keyed framed any (x .ring-blank)) in
       record {
         nothing = (λ q. x .no-entry, λ q. e);
         worn = (λ q. absurd (let z : _≡_ {A = ℕ} 0 1 = cc in omega arith), λ q. absurd (omega (arith, x .no-power-up)));

@@ -48,10 +48,10 @@ save-passes : (u : Setup) (firmware : Firmware) (ring fram : List ℕ) (a : Save
 unfolding save-stop
 save-passes u firmware ring fram a from e =
     let p = passes _ e in
-    let lengths = neither (key-wrong (length (u .key)) || nonce-wrong (length (a .nonce))) (from-wrong from) (p .1 .1 .0) in
+    let lengths = neither (key-wrong (firmware .key-lengths) (length (u .key)) || nonce-wrong (length (a .nonce))) (from-wrong from) (p .1 .1 .0) in
     record {
       fram-fits = p .1 .0;
-      nonce-long = eqb-true (length (a .nonce)) nonce-length (not-false _ (neither (key-wrong (length (u .key))) (nonce-wrong (length (a .nonce))) (lengths .0) .1));
+      nonce-long = eqb-true (length (a .nonce)) nonce-length (not-false _ (neither (key-wrong (firmware .key-lengths) (length (u .key))) (nonce-wrong (length (a .nonce))) (lengths .0) .1));
       from-right = lengths .1;
       parts = parts-pass firmware (a .open-part) (a .secret) fram (a .staging) (p .1 .1 .1 .0);
       packet-small = p .1 .1 .1 .1 .0;

@@ -42,7 +42,7 @@ power-up-at-11 firmware ring fram a =
     first-of (
     (1, ring-wrong (a .sizes .pages) (a .sizes .slots) ring) ∷
     (2, fram-wrong (firmware .largest-fram) fram) ∷
-    (3, key-wrong (length (a .key)) || nonce-wrong (length (a .nonce))) ∷
+    (3, key-wrong (firmware .key-lengths) (length (a .key)) || nonce-wrong (length (a .nonce))) ∷
     (4, staging-wrong (a .staging) fram || state-wrong firmware (a .state)) ∷
     (6, is-blank n) ∷
     (7, is-unreadable n) ∷
@@ -55,7 +55,7 @@ look-at-11 firmware ring fram a =
     first-of (
     (1, ring-wrong (a .sizes .pages) (a .sizes .slots) ring) ∷
     (2, fram-wrong (firmware .largest-fram) fram) ∷
-    (3, key-wrong (length (a .key))) ∷
+    (3, key-wrong (firmware .key-lengths) (length (a .key))) ∷
     (6, is-blank n) ∷
     (7, is-unreadable n) ∷
     (11, true) ∷ [])
@@ -85,7 +85,7 @@ BeyondRefused =
     → ((a : PowersUp) → a .sizes ≡ z → PowerUpRefused firmware ring fram a) × ((a : Looks) → a .sizes ≡ z → LookRefused firmware ring fram a))
     × LengthsWhole firmware (newest-half ring fram (z .slots) (newest-in ring z)) c
 
--- any firmware after every list of Recovery's whose entry is beyond it, whichever firmware wrote that entry; the unit's memories fit some firmware
+-- any firmware after every list of Recovery's whose entry is beyond it, whichever firmware wrote that entry; the unit's memories and key fit some firmware
 unfoldable pub BeyondAfter : Type 0
 BeyondAfter =
     (u : Setup) (firmware fitting : Firmware) (ring fram : List ℕ) → blank ring ≡ true → Fits u fitting ring fram

@@ -56,7 +56,7 @@ module _ (firmware : Firmware) (ring fram : List ℕ) where
   first-save-stop a = first-of (
       (1, ring-wrong (a .arguments .sizes .pages) (a .arguments .sizes .slots) ring) ∷
       (2, fram-wrong (firmware .largest-fram) fram) ∷
-      (3, key-wrong (length (a .arguments .key)) || nonce-wrong (length (a .arguments .nonce)) || tag-wrong (length (a .starting-tag))) ∷
+      (3, key-wrong (firmware .key-lengths) (length (a .arguments .key)) || nonce-wrong (length (a .arguments .nonce)) || tag-wrong (length (a .starting-tag))) ∷
       (4, parts-wrong firmware (a .arguments .open-part) (a .arguments .secret) fram || staging-wrong (a .arguments .staging) fram) ∷
       (18, packet-wrong (firmware .form) (a .arguments .packet)) ∷
       (5, not (blank ring)) ∷ [])
@@ -72,7 +72,7 @@ module _ (firmware : Firmware) (ring fram : List ℕ) where
       first-of (
       (1, ring-wrong (a .arguments .sizes .pages) (a .arguments .sizes .slots) ring) ∷
       (2, fram-wrong (firmware .largest-fram) fram) ∷
-      (3, key-wrong (length (a .arguments .key)) || nonce-wrong (length (a .arguments .nonce))) ∷
+      (3, key-wrong (firmware .key-lengths) (length (a .arguments .key)) || nonce-wrong (length (a .arguments .nonce))) ∷
       (4, parts-wrong firmware (a .arguments .open-part) (a .arguments .secret) fram || staging-wrong (a .arguments .staging) fram) ∷
       (18, packet-wrong (firmware .form) (a .arguments .packet)) ∷
       (6, is-blank n) ∷

@@ -2,18 +2,18 @@
 -- eight power-ups in a row; there are lists of stale repeats and of a newer packet, with a power loss in an erase, and with an update.
 use Prim.Native.Nat.{ℕ, zero, suc, _+_, _-_, _*_, _/_, _%_, _^_, _≤_, _<_}
 use mathlib.Core.Path.{_≡_}
-use mathlib.Core.Bool.{true}
+use mathlib.Core.Bool.{true, false}
 use mathlib.Core.Option.{Option, none, some}
 use mathlib.Core.List.{List, [], _∷_, _++_}
 use lib.ListN.{length, replicate}
-use Rattle.octets.specs.Limits.{pages-least, slots-least, slot-length, key-length, restart-limit, nonce-length, tag-length}
+use Rattle.octets.specs.Limits.{pages-least, slots-least, slot-length, long-key, restart-limit, nonce-length, tag-length}
 use Rattle.octets.specs.Octets.{blank, erased, bytes}
 use Rattle.ring.specs.Ring.{At, AtPending, read-ring}
 use Rattle.checkpoint.specs.Checkpoint.{Form, Older, Longer, Checkpoint, empty-length}
 use Rattle.checkpoint.specs.Fram.{half-length}
-use Rattle.protocol.specs.Types.{Firmware, first-firmware, packet-firmware, larger-firmware, this-firmware, Session, EraseFirst, Stopped}
+use Rattle.protocol.specs.Types.{Firmware, first-firmware, packet-firmware, larger-firmware, half-first-firmware, this-firmware, Session, EraseFirst, Stopped}
 use Rattle.protocol.specs.Calls.{sizes, from-tag, from-session, SaveArguments, Saves, saves, PowersUp, Setup, Event, saved, powered-up, updated-to, lost-in-store}
-use Rattle.protocol.specs.Operations.{power-up}
+use Rattle.protocol.specs.Operations.{key-wrong, power-up}
 use Rattle.protocol.specs.Journal.{Draft}
 use Rattle.protocol.specs.History.{State, fresh, step, run, Succeeds, Allowed}
 use Rattle.protocol.specs.Recovery.{advances-of, Fits}
@@ -134,7 +134,7 @@ NewerPacket =
 
 -- the papers' firmwares follow on each other
 unfoldable pub InOrder : Type 0
-InOrder = Succeeds first-firmware packet-firmware × Succeeds packet-firmware larger-firmware × Succeeds larger-firmware this-firmware
+InOrder = Succeeds first-firmware packet-firmware × Succeeds packet-firmware larger-firmware × Succeeds larger-firmware half-first-firmware × Succeeds half-first-firmware this-firmware
 
 -- a first save and m power-ups, the update to the next firmware, and k power-ups of that one
 unfoldable pub updating : Setup → State → Firmware → ℕ → ℕ → List Event
@@ -156,7 +156,7 @@ Updates =
 -- ---- lists of the smallest unit
 
 unfoldable pub smallest : Setup
-smallest = record { sizes = sizes pages-least slots-least; key = replicate key-length 0 }
+smallest = record { sizes = sizes pages-least slots-least; key = replicate long-key 0 }
 
 -- the smallest FRAM that holds checkpoints of a form: 88 bytes or 96
 abbrev pub bench-fram : Form → List ℕ
@@ -193,10 +193,10 @@ pub record Interrupted (firmware : Firmware) (room : Form) : Type 0 where
       read-ring (run smallest (bench-state firmware room) (interrupted firmware room ++ events) .ring) pages-least slots-least ≡ At 1 1
 
 -- eight power-ups in a row after the first save; six saves after it, so that the seventh record is the first of the second round; and a power loss;
--- for all firmware that takes so small a FRAM
+-- for all firmware that takes so small a FRAM and a key of 32 bytes
 unfoldable pub Examples : Type 0
 Examples =
-    (firmware : Firmware) → 2 * empty-length (firmware .form) ≤ firmware .largest-fram
+    (firmware : Firmware) → 2 * empty-length (firmware .form) ≤ firmware .largest-fram → key-wrong (firmware .key-lengths) long-key ≡ false
     → let s = bench-state firmware (firmware .form) in
     Reached smallest s (history smallest s 0 restart-limit) 0 restart-limit × Reached smallest s (history smallest s 6 0) 6 0 × Interrupted firmware (firmware .form)
 

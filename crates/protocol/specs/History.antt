@@ -1,5 +1,5 @@
 -- Lists of calls and power losses (document 01, "Runs, cuts and the book"; a cut is a power loss): what they leave, and the rules that the papers set for them.
--- At a power loss the unit may get other firmware that reads what its own wrote (document 02, A.2, A.5 and A.6), as often as one likes:
+-- At a power loss the unit may get other firmware that reads what its own wrote (document 02, A.2, A.5, A.6 and A.8), as often as one likes:
 -- `updated-to` is that loss. Where it fell into a store, `lost-in-store` comes right before it.
 use Prim.Native.Nat.{ℕ, _+_, _*_, _≤_}
 use mathlib.Core.Path.{_≡_}
@@ -206,7 +206,7 @@ Left Record j slots left = (left ≡ job-record j) ⊎ (left ≡ erased slot-len
 Left (EraseAfter p) j slots left = length left ≡ slot-length * slots
 Left Done j slots left = ⊥
 
--- the firmware `next` reads what `firmware` wrote: heads of that form, and parts as long as its longest
+-- the firmware `next` reads what `firmware` wrote: heads of that form, and parts as long as its longest; of FRAM and key nothing is asked here
 pub record Succeeds (firmware next : Firmware) : Type 0 where
   pub heads : Reads (next .form) (firmware .form)
   pub parts : firmware .longest-part ≤ next .longest-part

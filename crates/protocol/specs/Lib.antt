@@ -10,3 +10,4 @@ pub mod Entries
 pub mod Older
 pub mod Beyond
 pub mod Orders
+pub mod Keys

@@ -15,8 +15,12 @@ use Rattle.checkpoint.specs.Checkpoint.{Older, Checkpoint, head-words, part-wro
 use Rattle.checkpoint.specs.Half.{stored-restarts, good-head, good-tag}
 use Rattle.protocol.specs.Types.{first-firmware}
 use Rattle.protocol.specs.Calls.{SaveArguments, PowersUp, Looks, Advances}
-use Rattle.protocol.specs.Operations.{key-wrong, nonce-wrong, tag-wrong, newest-in, newest-half, staging-wrong, stale, phase-wrong, save-checkpoint, resumed, save-stop, power-up-stop, look-stop, advance-stop}
+use Rattle.protocol.specs.Operations.{nonce-wrong, tag-wrong, newest-in, newest-half, staging-wrong, stale, phase-wrong, save-checkpoint, resumed, save-stop, power-up-stop, look-stop, advance-stop}
 use Rattle.protocol.specs.Entries.{FirstSave, NextSave, as-first, as-next}
+
+-- stop 3 of a key
+abbrev pub wrong-key : List ℕ → Bool
+wrong-key key = not (eqb (length key) 32)
 
 -- stop 4 of both parts: the checkpoint is 44 bytes and both parts
 abbrev pub wrong-parts : List ℕ → SaveArguments → Bool
@@ -27,13 +31,13 @@ pub record OlderStops (ring fram : List ℕ) : Type 0 where
   pub first-save : (a : FirstSave) → save-stop first-firmware ring fram (as-first a) ≡ first-of (
       (1, ring-wrong (a .arguments .sizes .pages) (a .arguments .sizes .slots) ring) ∷
       (2, fram-wrong 131072 fram) ∷
-      (3, key-wrong (length (a .arguments .key)) || nonce-wrong (length (a .arguments .nonce)) || tag-wrong (length (a .starting-tag))) ∷
+      (3, wrong-key (a .arguments .key) || nonce-wrong (length (a .arguments .nonce)) || tag-wrong (length (a .starting-tag))) ∷
       (4, wrong-parts fram (a .arguments)) ∷
       (5, not (blank ring)) ∷ [])
   pub save : (a : NextSave) → let n = newest-in ring (a .arguments .sizes) in save-stop first-firmware ring fram (as-next a) ≡ first-of (
       (1, ring-wrong (a .arguments .sizes .pages) (a .arguments .sizes .slots) ring) ∷
       (2, fram-wrong 131072 fram) ∷
-      (3, key-wrong (length (a .arguments .key)) || nonce-wrong (length (a .arguments .nonce))) ∷
+      (3, wrong-key (a .arguments .key) || nonce-wrong (length (a .arguments .nonce))) ∷
       (4, wrong-parts fram (a .arguments)) ∷
       (6, is-blank n) ∷
       (7, is-unreadable n) ∷
@@ -43,7 +47,7 @@ pub record OlderStops (ring fram : List ℕ) : Type 0 where
   pub power-up : (a : PowersUp) → let n = newest-in ring (a .sizes) in let half = newest-half ring fram (a .sizes .slots) n in power-up-stop first-firmware ring fram a ≡ first-of (
       (1, ring-wrong (a .sizes .pages) (a .sizes .slots) ring) ∷
       (2, fram-wrong 131072 fram) ∷
-      (3, key-wrong (length (a .key)) || nonce-wrong (length (a .nonce))) ∷
+      (3, wrong-key (a .key) || nonce-wrong (length (a .nonce))) ∷
       (4, staging-wrong (a .staging) fram || ltb (length (a .state)) 4096) ∷
       (6, is-blank n) ∷
       (7, is-unreadable n) ∷
@@ -54,7 +58,7 @@ pub record OlderStops (ring fram : List ℕ) : Type 0 where
   pub look : (a : Looks) → let n = newest-in ring (a .sizes) in let half = newest-half ring fram (a .sizes .slots) n in look-stop first-firmware ring fram a ≡ first-of (
       (1, ring-wrong (a .sizes .pages) (a .sizes .slots) ring) ∷
       (2, fram-wrong 131072 fram) ∷
-      (3, key-wrong (length (a .key))) ∷
+      (3, wrong-key (a .key)) ∷
       (6, is-blank n) ∷
       (7, is-unreadable n) ∷
       (11, not (good-head 4096 Older half)) ∷

@@ -1,4 +1,4 @@
--- What each operation answers and leaves in the lent buffers (document 01, "What the unit calls" and "Stops, by the place of checking", and document 02, A.2, A.5, A.6 and A.7).
+-- What each operation answers and leaves in the lent buffers (document 01, "What the unit calls" and "Stops, by the place of checking", and document 02, A.2 and A.5 to A.8).
 -- A stop is the number of the first condition that holds, in a list with a line for each row of the papers that names the operation: rising, but
 -- 18 comes right after 4, and a power-up's second 4 last (A.2), from A.6 on right after 10, which then goes behind 13.
 -- `firmware` is the unit's, and `form` that of the heads which it writes: at `first-firmware` these are document 01's operations (Older.antt), and the
@@ -213,7 +213,7 @@ module _ (firmware : Firmware) (ring fram : List ℕ) where
   save-stop a = first-of (
       (1, ring-wrong (a .arguments .sizes .pages) (a .arguments .sizes .slots) ring) ∷
       (2, fram-wrong (firmware .largest-fram) fram) ∷
-      (3, key-wrong (length (a .arguments .key)) || nonce-wrong (length (a .arguments .nonce)) || from-wrong (a .from)) ∷
+      (3, key-wrong (firmware .key-lengths) (length (a .arguments .key)) || nonce-wrong (length (a .arguments .nonce)) || from-wrong (a .from)) ∷
       (4, parts-wrong firmware (a .arguments .open-part) (a .arguments .secret) fram || staging-wrong (a .arguments .staging) fram) ∷
       (18, packet-wrong (firmware .form) (a .arguments .packet)) ∷
       ring-lines (a .arguments) (a .from))
@@ -239,7 +239,7 @@ module _ (firmware : Firmware) (ring fram : List ℕ) where
       first-of (
       (1, ring-wrong (a .sizes .pages) (a .sizes .slots) ring) ∷
       (2, fram-wrong (firmware .largest-fram) fram) ∷
-      (3, key-wrong (length (a .key)) || nonce-wrong (length (a .nonce))) ∷
+      (3, key-wrong (firmware .key-lengths) (length (a .key)) || nonce-wrong (length (a .nonce))) ∷
       (4, staging-wrong (a .staging) fram || state-wrong firmware (a .state)) ∷
       (6, is-blank n) ∷
       (7, is-unreadable n) ∷
@@ -270,7 +270,7 @@ module _ (firmware : Firmware) (ring fram : List ℕ) where
       first-of (
       (1, ring-wrong (a .sizes .pages) (a .sizes .slots) ring) ∷
       (2, fram-wrong (firmware .largest-fram) fram) ∷
-      (3, key-wrong (length (a .key))) ∷
+      (3, key-wrong (firmware .key-lengths) (length (a .key))) ∷
       (6, is-blank n) ∷
       (7, is-unreadable n) ∷
       (11, not (good-head (firmware .longest-part) (read-as (firmware .form) half) half)) ∷

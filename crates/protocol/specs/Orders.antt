@@ -25,7 +25,7 @@ use Rattle.protocol.specs.Recovery.{Started, Outgrown, Fits}
 -- a firmware with an order
 abbrev pub ordered : Order → Firmware → Firmware
 ordered order f =
-    record { form = f .form; order = order; longest-part = f .longest-part; largest-fram = f .largest-fram; fits-word = f .fits-word }
+    record { form = f .form; order = order; longest-part = f .longest-part; largest-fram = f .largest-fram; key-lengths = f .key-lengths; fits-word = f .fits-word }
 
 -- 10 holds, nothing that goes before it does, and x is the lowest of 11, 12 and 13 that holds as well
 abbrev pub Together : Firmware → (ring fram : List ℕ) → PowersUp → ℕ → Type 0

@@ -8,14 +8,14 @@ use mathlib.Core.List.{List, [], _∷_, _++_, List·Memᴰ}
 use mathlib.Core.Logic.{_↔_, _⊎_}
 use lib.ListN.{length, replicate, take}
 use lib.Dec.{T}
-use Rattle.octets.specs.Limits.{restart-limit, key-length, nonce-length}
+use Rattle.octets.specs.Limits.{restart-limit, nonce-length}
 use Rattle.octets.specs.Octets.{put, blank}
 use Rattle.ring.specs.Ring.{At, ring-wrong, slot-at, half-named, read-ring}
 use Rattle.checkpoint.specs.Fram.{fram-wrong, half-length, half-at}
 use Rattle.checkpoint.specs.Checkpoint.{Checkpoint, own-tag, sealed}
 use Rattle.protocol.specs.Types.{Firmware, Restarts, Unseen, Session, Origin, Save, PowerUp, Progress, GoingOn, Restored, Saved, Refused, Start, Begun, Stopped}
 use Rattle.protocol.specs.Calls.{PowersUp, Looks, Advances, Setup, Event, saved, powered-up, advanced-by, PowerLoss, updated-to, lost-in-store}
-use Rattle.protocol.specs.Operations.{Begin, Moved, no-job, save-stop, save, power-up-stop, power-up, look, open-stretch, stretch-of, advance-stop, advance, no-session, session-of}
+use Rattle.protocol.specs.Operations.{key-wrong, Begin, Moved, no-job, save-stop, save, power-up-stop, power-up, look, open-stretch, stretch-of, advance-stop, advance, no-session, session-of}
 use Rattle.protocol.specs.Journal.{Draft, to-come, power-up-draft, stores-of}
 use Rattle.protocol.specs.History.{State, Handed, broken-ring, broken-fram, bytes-of, fresh, run, step, is-stop, is-stopped, refused, Keeps, Allowed}
 
@@ -94,11 +94,11 @@ Exactly u s (e ∷ more) = Exact s e × Follows u s e × Exactly u (step u s e) 
 
 -- ---- the last power-up
 
--- a unit's sizes and key are ones that pass, its ring fits them, and its FRAM the firmware
+-- a unit's sizes pass and its ring fits them, and the firmware takes its FRAM and its key
 pub record Fits (u : Setup) (firmware : Firmware) (ring fram : List ℕ) : Type 0 where
   pub ring-right : ring-wrong (u .sizes .pages) (u .sizes .slots) ring ≡ false
   pub fram-right : fram-wrong (firmware .largest-fram) fram ≡ false
-  pub key-right : length (u .key) ≡ key-length
+  pub key-right : key-wrong (firmware .key-lengths) (length (u .key)) ≡ false
 
 -- the last power-up: the unit's sizes and key, a nonce that no start which began had, and buffers that pass 1 to 4
 pub record Last (u : Setup) (s : State) (a : PowersUp) : Type 0 where
@@ -202,7 +202,7 @@ pub record Seen (u : Setup) (s : State) : Type 0 where
   pub restarts : (c : Checkpoint) → s .journal .entry ≡ some c → look (s .firmware) (s .ring) (s .fram) (looks u) ≡ Restarts (c .restarts)
   pub open-part : (c : Checkpoint) → s .journal .entry ≡ some c → stretch-of (s .fram) (open-stretch (s .firmware) (s .ring) (s .fram) (looks u)) ≡ c .open-part
 
--- `firmware` is what the unit begins with, whatever its limits; the memories are to fit what it has after the list
+-- `firmware` is what the unit begins with, whatever its limits and the keys that it takes; memories and key are to fit what it has after the list
 unfoldable pub Recovery : Type 0
 Recovery =
     (u : Setup) (firmware : Firmware) (ring fram : List ℕ) → blank ring ≡ true

@@ -1,6 +1,7 @@
 // A half that was read opened and sealed anew, with one restart more, for a power-up (document 01, "What the unit calls"). Everything that
 // can stop it is tried before a byte of staging or state is written.
 use aes::expand_key;
+use aes::rounds;
 use aes::table::round_table;
 use checkpoint::half::Head;
 use checkpoint::half::good_tag;
@@ -21,10 +22,11 @@ ghost use mathlib.Core.Bool.{true, false};
 ghost use mathlib.Core.List.{List};
 ghost use Prim.Native.Nat.{ℕ, _≤_, _<_};
 ghost use lib.ListN.{length};
-ghost use Rattle.octets.specs.Limits.{key-length, nonce-length, part-limit, restart-limit};
+ghost use Rattle.octets.specs.Limits.{nonce-length, part-limit, restart-limit};
 ghost use Rattle.stops.specs.Stops.{first-of};
 ghost use Rattle.stops.specs.View.{check-number};
 ghost use Rattle.aes.specs.Cipher.{cipher, aes};
+ghost use Rattle.gcm.specs.Calls.{KeyLength};
 ghost use Rattle.checkpoint.specs.Checkpoint.{Longer};
 ghost use Rattle.checkpoint.specs.Half.{form-of, good-head, good-tag};
 ghost use Rattle.checkpoint.specs.Prepared.{Prepared};
@@ -173,10 +175,10 @@ pub fn reseal(
     staging: &mut [u8],
     state: &mut [u8],
 ) -> Resealed
-    requires { ⌜ (length (now key) ≡ key-length) × (length (now latest) ≡ nonce-length) × (length (now nonce) ≡ nonce-length) × (good-head part-limit (form-of (now half)) (now half) ≡ true) × HeadOf head (now half) × (length (now half) ≤ length (now staging)) × (part-limit ≤ length (now state)) ⌝ }
+    requires { ⌜ KeyLength (length (now key)) × (length (now latest) ≡ nonce-length) × (length (now nonce) ≡ nonce-length) × (good-head part-limit (form-of (now half)) (now half) ≡ true) × HeadOf head (now half) × (length (now half) ≤ length (now staging)) × (part-limit ≤ length (now state)) ⌝ }
     ensures { λ r. ⌜ Outcome (now (key .entry)) r used (now (latest .entry)) (now (half .entry)) (now (nonce .entry)) (now (staging .entry)) (now (staging .exit)) (now (state .entry)) (now (state .exit)) ⌝ }
 {
-    let rounds = key.len() / 4 + 6;
+    let rounds = rounds(key.len());
     let table = round_table();
     let mut keys = expand_key(key);
     let mut steps = hash_steps(&table, &keys, rounds);

@@ -8,10 +8,12 @@ use native.Mathlib.Omega.{arith}
 use lib.Dec.{eqb, ltb}
 use lib.ListN.{length}
 use borrow.Author.Tests.{eqb-true, eq-eqb, ltb-false, not-false}
-use Rattle.octets.specs.Limits.{key-length, nonce-length, part-limit, restart-limit, packet-limit, tag-length}
+use Rattle.octets.specs.Limits.{key-lengths, nonce-length, part-limit, restart-limit, packet-limit, tag-length}
 use Rattle.stops.specs.Stops.{first-of, then-stop}
 use Rattle.stops.proofs.Laws.{first-passes, first-stays, one-more, passes, neither}
 use Rattle.ring.specs.Ring.{Newest, ring-wrong, read-ring, newest-record, half-named, target-page, target-slot}
+use Rattle.gcm.specs.Calls.{KeyLength}
+use Rattle.gcm.proofs.Keys.{whole-key}
 use Rattle.checkpoint.specs.Checkpoint.{Longer, Checkpoint, part-wrong, sealed-length, checkpoint-of}
 use Rattle.checkpoint.specs.Fram.{fram-wrong, half-length}
 use Rattle.memories.specs.Stages.{of-memories}
@@ -27,7 +29,7 @@ use Rattle.saves.specs.Stages.{save-buffers, first-lines, next-lines}
 
 pub buffers-tried : (ring fram : List ℕ) (a : SaveArguments) (from : From) (c d : Bool) (o₂ o₃ o₄ o₁₈ : Option ℕ)
     → o₂ ≡ first-of (of-memories (a .sizes .pages) (a .sizes .slots) ring fram)
-    → c ≡ key-wrong (length (a .key)) || nonce-wrong (length (a .nonce)) || from-wrong from
+    → c ≡ key-wrong key-lengths (length (a .key)) || nonce-wrong (length (a .nonce)) || from-wrong from
     → d ≡ parts-wrong this-firmware (a .open-part) (a .secret) fram || staging-wrong (a .staging) fram
     → o₃ ≡ then-stop o₂ 3 c → o₄ ≡ then-stop o₃ 4 d → o₁₈ ≡ then-stop o₄ 18 (ltb packet-limit (a .packet)) → o₁₈ ≡ first-of (save-buffers ring fram a from)
 unfolding packet-wrong
@@ -37,7 +39,7 @@ buffers-tried ring fram a from c d o₂ o₃ o₄ o₁₈ e x y f g h =
 -- ---- what holds where the first stage passes
 
 pub record Lengths (fram : List ℕ) (a : SaveArguments) : Type 0 where
-  pub key : length (a .key) ≡ key-length
+  pub key : KeyLength (length (a .key))
   pub nonce : length (a .nonce) ≡ nonce-length
   pub packet : a .packet ≤ packet-limit
   pub open-part : length (a .open-part) ≤ part-limit
@@ -48,7 +50,7 @@ pub small : (p : List ℕ) → part-wrong part-limit p ≡ false → length p �
 unfolding part-wrong
 small p e = ltb-false part-limit (length p) (neither (not (eqb (length p % 4) 0)) (ltb part-limit (length p)) e .1)
 
-pub lengths : (fram : List ℕ) (a : SaveArguments) → key-wrong (length (a .key)) ≡ false → nonce-wrong (length (a .nonce)) ≡ false
+pub lengths : (fram : List ℕ) (a : SaveArguments) → key-wrong key-lengths (length (a .key)) ≡ false → nonce-wrong (length (a .nonce)) ≡ false
     → parts-wrong this-firmware (a .open-part) (a .secret) fram || staging-wrong (a .staging) fram ≡ false → packet-wrong Longer (a .packet) ≡ false → Lengths fram a
 unfolding parts-wrong staging-wrong packet-wrong
 lengths fram a k n e h =
@@ -58,7 +60,7 @@ lengths fram a k n e h =
     let fits = ltb-false (half-length fram) (sealed-length Longer (length (a .open-part)) (length (a .secret))) (q .1) in
     let long = ltb-false (length (a .staging)) (half-length fram) (p .1) in
     record {
-      key = eqb-true (length (a .key)) key-length (not-false _ k);
+      key = whole-key (length (a .key)) k;
       nonce = eqb-true (length (a .nonce)) nonce-length (not-false _ n);
       packet = ltb-false packet-limit (a .packet) h;
       open-part = small (a .open-part) (r .0);
@@ -74,8 +76,8 @@ pub record Buffers (ring fram : List ℕ) (a : SaveArguments) (from : From) : Ty
 pub buffers-pass : (ring fram : List ℕ) (a : SaveArguments) (from : From) → first-of (save-buffers ring fram a from) ≡ none → Buffers ring fram a from
 buffers-pass ring fram a from e =
     let p = passes _ e in
-    let f = neither (key-wrong (length (a .key)) || nonce-wrong (length (a .nonce))) (from-wrong from) (p .1 .1 .0) in
-    let n = neither (key-wrong (length (a .key))) (nonce-wrong (length (a .nonce))) (f .0) in
+    let f = neither (key-wrong key-lengths (length (a .key)) || nonce-wrong (length (a .nonce))) (from-wrong from) (p .1 .1 .0) in
+    let n = neither (key-wrong key-lengths (length (a .key))) (nonce-wrong (length (a .nonce))) (f .0) in
     record { ring-right = p .0; lengths-right = lengths fram a (n .0) (n .1) (p .1 .1 .1 .0) (p .1 .1 .1 .1 .0); from-right = f .1 }
 
 pub right-tag : (tag : List ℕ) → from-wrong (from-tag tag) ≡ false → length tag ≡ tag-length
@@ -168,7 +170,7 @@ module _ (ring fram : List ℕ) (a : SaveArguments) (tag : List ℕ) where
   alike w = λ i. first-of (
       (1, ring-wrong (a .sizes .pages) (a .sizes .slots) ring) ∷
       (2, fram-wrong (this-firmware .largest-fram) fram) ∷
-      (3, key-wrong (length (a .key)) || nonce-wrong (length (a .nonce)) || sym w i) ∷
+      (3, key-wrong key-lengths (length (a .key)) || nonce-wrong (length (a .nonce)) || sym w i) ∷
       (4, parts-wrong this-firmware (a .open-part) (a .secret) fram || staging-wrong (a .staging) fram) ∷
       (18, packet-wrong Longer (a .packet)) ∷
       first-lines ring)

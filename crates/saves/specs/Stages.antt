@@ -7,6 +7,7 @@ use Rattle.octets.specs.Octets.{blank}
 use Rattle.ring.specs.Ring.{Newest, is-pending, nonce-used}
 use Rattle.checkpoint.specs.Checkpoint.{Longer}
 use Rattle.memories.specs.Stages.{of-memories, of-newest}
+use Rattle.octets.specs.Limits.{key-lengths}
 use Rattle.protocol.specs.Types.{Session, this-firmware}
 use Rattle.protocol.specs.Calls.{From, SaveArguments}
 use Rattle.protocol.specs.Operations.{key-wrong, nonce-wrong, from-wrong, parts-wrong, staging-wrong, packet-wrong, stale, session-wrong}
@@ -15,7 +16,7 @@ use Rattle.protocol.specs.Operations.{key-wrong, nonce-wrong, from-wrong, parts
 abbrev pub save-buffers : (ring fram : List ℕ) → SaveArguments → From → List (ℕ × Bool)
 save-buffers ring fram a from =
     of-memories (a .sizes .pages) (a .sizes .slots) ring fram ++ (
-    (3, key-wrong (length (a .key)) || nonce-wrong (length (a .nonce)) || from-wrong from) ∷
+    (3, key-wrong key-lengths (length (a .key)) || nonce-wrong (length (a .nonce)) || from-wrong from) ∷
     (4, parts-wrong this-firmware (a .open-part) (a .secret) fram || staging-wrong (a .staging) fram) ∷
     (18, packet-wrong Longer (a .packet)) ∷ [])
 

@@ -33,11 +33,12 @@ ghost use mathlib.Core.Option.{none};
 ghost use mathlib.Core.List.{List, []};
 ghost use Prim.Native.Nat.{ℕ, _≤_};
 ghost use lib.ListN.{length};
-ghost use Rattle.octets.specs.Limits.{key-length, nonce-length, part-limit, restart-limit, packet-limit, tag-length};
+ghost use Rattle.octets.specs.Limits.{nonce-length, part-limit, restart-limit, packet-limit, tag-length};
 ghost use Rattle.stops.specs.Stops.{first-of};
 ghost use Rattle.stops.specs.View.{check-number, stop-number};
 ghost use Rattle.ring.specs.Ring.{ring-wrong, Within};
 ghost use Rattle.ring.specs.View.{newest};
+ghost use Rattle.gcm.specs.Calls.{KeyLength};
 ghost use Rattle.checkpoint.specs.Checkpoint.{Longer, sealed-length, checkpoint-of};
 ghost use Rattle.protocol.specs.Types.{Words, Save, this-firmware};
 ghost use Rattle.protocol.specs.Calls.{from-tag, from-session, saves};
@@ -82,7 +83,7 @@ fn begin_save(
     page: usize,
     slot: usize,
 ) -> Started
-    requires { ⌜ (length (now key) ≡ key-length) × (length (now nonce) ≡ nonce-length) × (packet ≤ packet-limit) × (restarts ≤ restart-limit) × (length (now previous) ≡ tag-length) × (length (now «open») ≤ part-limit) × (length (now secret) ≤ part-limit) × (sealed-length Longer (length (now «open»)) (length (now secret)) ≤ length (now staging)) ⌝ }
+    requires { ⌜ KeyLength (length (now key)) × (length (now nonce) ≡ nonce-length) × (packet ≤ packet-limit) × (restarts ≤ restart-limit) × (length (now previous) ≡ tag-length) × (length (now «open») ≤ part-limit) × (length (now secret) ≤ part-limit) × (sealed-length Longer (length (now «open»)) (length (now secret)) ≤ length (now staging)) ⌝ }
     ensures { λ r. ⌜ view-started r (now (staging .exit)) ≡ begin none (now (key .entry)) (checkpoint-of packet (now («open» .entry)) (now (secret .entry)) restarts (now (previous .entry)) (now (nonce .entry))) (job-of (now (key .entry)) (checkpoint-of packet (now («open» .entry)) (now (secret .entry)) restarts (now (previous .entry)) (now (nonce .entry))) (Words 0) Save half page slot) (now (staging .entry)) [] [] ⌝ }
 {
     let tag = seal_under(

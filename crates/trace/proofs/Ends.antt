@@ -147,31 +147,31 @@ stored-kept zero staging m = refl
 stored-kept (suc n) staging m =
     kept-if (is-going (m .progress)) (stored-on n staging (next staging m)) m (stored-kept n staging (next staging m) ∙ advance-kept (m .ring) (m .fram) (call-of staging m))
 
-pub operation-kept : (b : Bench) (w : ℕ) → length (operation b w .fram) ≡ length (b .fram)
+pub operation-kept : (key : List ℕ) (b : Bench) (w : ℕ) → length (operation key b w .fram) ≡ length (b .fram)
 unfolding operation started
-operation-kept b w =
-    let s = start (b .ring) (b .fram) (b .session) w bench-staging in
+operation-kept key b w =
+    let s = start key (b .ring) (b .fram) (b .session) w bench-staging in
     stored-kept (stores-until (b .cut)) (s .staging) (started (b .ring) (b .fram) s)
 
-step-kept : (b : Bench) (w : ℕ) → length (step b w .fram) ≡ length (b .fram)
+step-kept : (key : List ℕ) (b : Bench) (w : ℕ) → length (step key b w .fram) ≡ length (b .fram)
 unfolding step cut-set operated
-step-kept b w = go (is-cut w)
+step-kept key b w = go (is-cut w)
   where
-    go : (c : Bool) → length (cond c (cut-set b (value w)) (operated b w) .fram) ≡ length (b .fram)
+    go : (c : Bool) → length (cond c (cut-set b (value w)) (operated key b w) .fram) ≡ length (b .fram)
     go true = refl
-    go false = operation-kept b w
+    go false = operation-kept key b w
 
-after-kept : (words : List ℕ) (b : Bench) → length (after b words .fram) ≡ length (b .fram)
+after-kept : (key words : List ℕ) (b : Bench) → length (after key b words .fram) ≡ length (b .fram)
 unfolding after
-after-kept [] b = refl
-after-kept (w ∷ more) b = after-kept more (step b w) ∙ step-kept b w
+after-kept key [] b = refl
+after-kept key (w ∷ more) b = after-kept key more (step key b w) ∙ step-kept key b w
 
 -- ---- every operation of a trace
 
-runs-on : (b : Bench) (w : ℕ) → length (b .fram) ≡ fram-length → b .cut ≡ none → is-going (operation b w .progress) ≡ false
+runs-on : (key : List ℕ) (b : Bench) (w : ℕ) → length (b .fram) ≡ fram-length → b .cut ≡ none → is-going (operation key b w .progress) ≡ false
 unfolding operation started stores-until half-length
-runs-on b w l c =
-    let s = start (b .ring) (b .fram) (b .session) w bench-staging in
+runs-on key b w l c =
+    let s = start key (b .ring) (b .fram) (b .session) w bench-staging in
     let m = started (b .ring) (b .fram) s in
     ap (λ (o : Option ℕ). is-going (stored-on (stores-until o) (s .staging) m .progress)) c
     ∙ ends (s .staging) most-stores m (omega arith)
@@ -179,4 +179,4 @@ runs-on b w l c =
 
 pub runs-to-its-end : RunsToItsEnd
 unfolding RunsToItsEnd blank-bench
-runs-to-its-end words w c = runs-on (after blank-bench words) w (after-kept words blank-bench ∙ length-replicate {A = ℕ} fram-length 0xFF) c
+runs-to-its-end key words w c = runs-on key (after key blank-bench words) w (after-kept key words blank-bench ∙ length-replicate {A = ℕ} fram-length 0xFF) c

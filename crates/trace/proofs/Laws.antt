@@ -84,20 +84,20 @@ words-end trace k n a h = ap (words-wrong a) (no-word trace k n h)
 -- ---- lines
 
 -- k words have been run: the bench is at b, and the text begins with their lines; what is left makes the whole
-pub record Sofar (words rest text₀ : List ℕ) (k : ℕ) (b : Bench) (text : List ℕ) (at : ℕ) : Type 0 where
+pub record Sofar (key words rest text₀ : List ℕ) (k : ℕ) (b : Bench) (text : List ℕ) (at : ℕ) : Type 0 where
   pub done : List ℕ
   pub written : text ≡ put text₀ 0 done
   pub ends : at ≡ length done
   pub room : length done ≤ line-limit * k
-  pub left : after b rest ≡ after blank-bench words
-  pub to-come : done ++ lines b rest ≡ lines blank-bench words
+  pub left : after key b rest ≡ after key blank-bench words
+  pub to-come : done ++ lines key b rest ≡ lines key blank-bench words
 
 -- before the first word
-pub nothing-done : (trace text₀ : List ℕ) (u : Unit) (ring fram ring₀ fram₀ : List ℕ) → ring ≡ replicate (length ring₀) 0xFF → length ring₀ ≡ ring-length
+pub nothing-done : (key trace text₀ : List ℕ) (u : Unit) (ring fram ring₀ fram₀ : List ℕ) → ring ≡ replicate (length ring₀) 0xFF → length ring₀ ≡ ring-length
     → fram ≡ replicate (length fram₀) 0xFF → length fram₀ ≡ fram-length → (view-held (u .held) ≡ none) × (view-cut u ≡ none)
-    → Sofar (words-of trace) (words-from trace 0 (length trace / 4 - 0)) text₀ 0 (view-unit u ring fram) text₀ 0
+    → Sofar key (words-of trace) (words-from trace 0 (length trace / 4 - 0)) text₀ 0 (view-unit u ring fram) text₀ 0
 unfolding put blank-bench
-nothing-done trace text₀ u ring fram ring₀ fram₀ e l f m n =
+nothing-done key trace text₀ u ring fram ring₀ fram₀ e l f m n =
     let b : view-unit u ring fram ≡ blank-bench =
     (λ i. record { ring = (e ∙ ap (λ (k : ℕ). replicate k 0xFF) l) i; fram = (f ∙ ap (λ (k : ℕ). replicate k 0xFF) m) i; session = n .0 i; cut = n .1 i }) in
     let w = all-words trace in
@@ -106,37 +106,37 @@ nothing-done trace text₀ u ring fram ring₀ fram₀ e l f m n =
       written = refl;
       ends = refl;
       room = omega arith;
-      left = λ i. after (b i) (w i);
-      to-come = λ i. lines (b i) (w i);
+      left = λ i. after key (b i) (w i);
+      to-come = λ i. lines key (b i) (w i);
     }
 
 -- one word more
-pub one-more : (trace text₀ : List ℕ) (k n w : ℕ) (b : Bench) (text text′ ring′ fram′ : List ℕ) (at : ℕ) (r : Step) → k < n → w ≡ word-at trace (4 * k)
-    → Sofar (words-of trace) (words-from trace k (n - k)) text₀ k b text at → Stepped b w text at r ring′ fram′ text′
-    → Sofar (words-of trace) (words-from trace (k + 1) (n - (k + 1))) text₀ (k + 1) (view-unit (r .unit) ring′ fram′) text′ (r .end)
+pub one-more : (key trace text₀ : List ℕ) (k n w : ℕ) (b : Bench) (text text′ ring′ fram′ : List ℕ) (at : ℕ) (r : Step) → k < n → w ≡ word-at trace (4 * k)
+    → Sofar key (words-of trace) (words-from trace k (n - k)) text₀ k b text at → Stepped key b w text at r ring′ fram′ text′
+    → Sofar key (words-of trace) (words-from trace (k + 1) (n - (k + 1))) text₀ (k + 1) (view-unit (r .unit) ring′ fram′) text′ (r .end)
 unfolding after lines
-one-more trace text₀ k n w b text text′ ring′ fram′ at r h e s t =
+one-more key trace text₀ k n w b text text′ ring′ fram′ at r h e s t =
     let rest = words-from trace (k + 1) (n - (k + 1)) in
     let words : words-from trace k (n - k) ≡ w ∷ rest = next-word trace k n h ∙ ap (λ (y : ℕ). y ∷ rest) (sym e) in
     record {
-      done = s .done ++ printed b w;
-      written = t .line-put ∙ ap (λ (y : List ℕ). put y at (printed b w)) (s .written) ∙ put-on text₀ (s .done) (printed b w) 0 at (omega (arith, s .ends)) (omega arith);
-      ends = omega (arith, s .ends, t .ends, length-append (s .done) (printed b w));
-      room = omega (arith, s .room, t .short, length-append (s .done) (printed b w));
-      left = ap (λ (y : Bench). after y rest) (t .unit) ∙ sym (ap (after b) words) ∙ s .left;
+      done = s .done ++ printed key b w;
+      written = t .line-put ∙ ap (λ (y : List ℕ). put y at (printed key b w)) (s .written) ∙ put-on text₀ (s .done) (printed key b w) 0 at (omega (arith, s .ends)) (omega arith);
+      ends = omega (arith, s .ends, t .ends, length-append (s .done) (printed key b w));
+      room = omega (arith, s .room, t .short, length-append (s .done) (printed key b w));
+      left = ap (λ (y : Bench). after key y rest) (t .unit) ∙ sym (ap (after key b) words) ∙ s .left;
       to-come =
-          ap (λ (y : Bench). s .done ++ printed b w ++ lines y rest) (t .unit) ∙ append-assoc (s .done) (printed b w) (lines (step b w) rest)
-          ∙ sym (ap (λ (y : List ℕ). s .done ++ lines b y) words) ∙ s .to-come;
+          ap (λ (y : Bench). s .done ++ printed key b w ++ lines key y rest) (t .unit) ∙ append-assoc (s .done) (printed key b w) (lines key (step key b w) rest)
+          ∙ sym (ap (λ (y : List ℕ). s .done ++ lines key b y) words) ∙ s .to-come;
     }
 
 -- after the last
-pub all-done : (trace text₀ : List ℕ) (k n : ℕ) (b : Bench) (text : List ℕ) (at : ℕ) → n ≤ k → Sofar (words-of trace) (words-from trace k (n - k)) text₀ k b text at → at ≤ length text₀
-    → Ran (words-of trace) text₀ at (b .ring) (b .fram) text
+pub all-done : (key trace text₀ : List ℕ) (k n : ℕ) (b : Bench) (text : List ℕ) (at : ℕ) → n ≤ k → Sofar key (words-of trace) (words-from trace k (n - k)) text₀ k b text at → at ≤ length text₀
+    → Ran key (words-of trace) text₀ at (b .ring) (b .fram) text
 unfolding after lines
-all-done trace text₀ k n b text at h s l =
+all-done key trace text₀ k n b text at h s l =
     let w = no-word trace k n h in
-    let a : b ≡ after blank-bench (words-of trace) = sym (ap (after b) w) ∙ s .left in
-    let e : s .done ≡ lines blank-bench (words-of trace) = sym (append-nil (s .done)) ∙ sym (ap (λ (r : List ℕ). s .done ++ lines b r) w) ∙ s .to-come in
+    let a : b ≡ after key blank-bench (words-of trace) = sym (ap (after key b) w) ∙ s .left in
+    let e : s .done ≡ lines key blank-bench (words-of trace) = sym (append-nil (s .done)) ∙ sym (ap (λ (r : List ℕ). s .done ++ lines key b r) w) ∙ s .to-come in
     record {
       ring = ap (λ (y : Bench). y .ring) a;
       fram = ap (λ (y : Bench). y .fram) a;

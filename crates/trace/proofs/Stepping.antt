@@ -42,11 +42,11 @@ module _ (n k : ℕ) (staging : List ℕ) (m : Moved) where
 
 -- ---- an operation
 
-pub operates : (b : Bench) (w n : ℕ) (s : Started) (staging : List ℕ) (m : Advanced) (r : Moved) → Starts s staging (start (b .ring) (b .fram) (b .session) w bench-staging)
+pub operates : (key : List ℕ) (b : Bench) (w n : ℕ) (s : Started) (staging : List ℕ) (m : Advanced) (r : Moved) → Starts s staging (start key (b .ring) (b .fram) (b .session) w bench-staging)
     → (view-progress (m .progress) ≡ start-progress (view-start (s .start))) × (view-job (m .job) ≡ view-job (s .job)) × (view-session (m .session) ≡ no-session)
-    → n ≡ stores-until (b .cut) → r ≡ stored-on n staging (view-advanced m (b .ring) (b .fram)) → r ≡ operation b w
+    → n ≡ stores-until (b .cut) → r ≡ stored-on n staging (view-advanced m (b .ring) (b .fram)) → r ≡ operation key b w
 unfolding operation started
-operates b w n s staging m r x y e f =
+operates key b w n s staging m r x y e f =
     f ∙ (λ i. stored-on (e i) (x .sealed i) (record {
       progress = (y .0 ∙ ap start-progress (x .answer)) i;
       job = (y .1 ∙ x .job) i;
@@ -68,31 +68,31 @@ module _ (u : Unit) (m : Moved) (x : Option types.Session) where
 
 -- ---- a word
 
-module _ (b : Bench) (w : ℕ) where
-  step-cut : is-cut w ≡ true → step b w ≡ cut-set b (value w)
+module _ (key : List ℕ) (b : Bench) (w : ℕ) where
+  step-cut : is-cut w ≡ true → step key b w ≡ cut-set b (value w)
   unfolding step
   step-cut e = rw e
 
-  step-operation : is-cut w ≡ false → step b w ≡ operated b w
+  step-operation : is-cut w ≡ false → step key b w ≡ operated key b w
   unfolding step
   step-operation e = rw e
 
-  none-printed : is-cut w ≡ true → printed b w ≡ []
+  none-printed : is-cut w ≡ true → printed key b w ≡ []
   unfolding printed
   none-printed e = rw e
 
-  line-printed : is-cut w ≡ false → printed b w ≡ line-after (operation b w .progress) (operation b w .ring)
+  line-printed : is-cut w ≡ false → printed key b w ≡ line-after (operation key b w .progress) (operation key b w .ring)
   unfolding printed
   line-printed e = rw e
 
-pub stepped-cut : (u v : Unit) (w n : ℕ) (ring fram text : List ℕ) (at : ℕ) → is-cut w ≡ true → n ≡ value w → (view-held (v .held) ≡ view-held (u .held)) × (view-cut v ≡ some n)
-    → Stepped (view-unit u ring fram) w text at (record { unit = v; end = at }) ring fram text
+pub stepped-cut : (key : List ℕ) (u v : Unit) (w n : ℕ) (ring fram text : List ℕ) (at : ℕ) → is-cut w ≡ true → n ≡ value w → (view-held (v .held) ≡ view-held (u .held)) × (view-cut v ≡ some n)
+    → Stepped key (view-unit u ring fram) w text at (record { unit = v; end = at }) ring fram text
 unfolding cut-set put
-stepped-cut u v w n ring fram text at c e f =
+stepped-cut key u v w n ring fram text at c e f =
     let b = view-unit u ring fram in
-    let p = none-printed b w c in
+    let p = none-printed key b w c in
     record {
-      unit = (λ i. record { ring = ring; fram = fram; session = f .0 i; cut = (f .1 ∙ ap (λ (y : ℕ). some y) e) i }) ∙ sym (step-cut b w c);
+      unit = (λ i. record { ring = ring; fram = fram; session = f .0 i; cut = (f .1 ∙ ap (λ (y : ℕ). some y) e) i }) ∙ sym (step-cut key b w c);
       line-put = sym (ap (put text at) p ∙ rw (add-zero at) (take-append-drop at text));
       ends = omega (arith, ap length p);
       short = omega (arith, ap length p);
@@ -104,18 +104,18 @@ taken {l} {t} s =
     let e = s .holds in
     (ap (λ (y : Line). take (y .length) (y .bytes)) e ∙ ap (take (length t)) (put-front (replicate line-limit 0) t) ∙ take-at t (drop (length t) (replicate line-limit 0)) (length t) refl, ap (λ (y : Line). y .length) e)
 
-pub stepped : (u v : Unit) (w : ℕ) (ring fram ring′ fram′ text text′ : List ℕ) (at end : ℕ) (m : Advanced) (l : Line) → is-cut w ≡ false
-    → view-advanced m ring′ fram′ ≡ operation (view-unit u ring fram) w → Short (line-after (view-progress (m .progress)) ring′) l line-limit
+pub stepped : (key : List ℕ) (u v : Unit) (w : ℕ) (ring fram ring′ fram′ text text′ : List ℕ) (at end : ℕ) (m : Advanced) (l : Line) → is-cut w ≡ false
+    → view-advanced m ring′ fram′ ≡ operation key (view-unit u ring fram) w → Short (line-after (view-progress (m .progress)) ring′) l line-limit
     → (text′ ≡ put text at (take (l .length) (l .bytes))) × (end ≡ at + l .length)
     → ((ring fram : List ℕ) → view-held (v .held) ≡ session-after (view-cut u) (view-advanced m ring fram) (view-held (u .held))) × (view-cut v ≡ none)
-    → Stepped (view-unit u ring fram) w text at (record { unit = v; end = end }) ring′ fram′ text′
+    → Stepped key (view-unit u ring fram) w text at (record { unit = v; end = end }) ring′ fram′ text′
 unfolding operated
-stepped u v w ring fram ring′ fram′ text text′ at end m l c o s t f =
+stepped key u v w ring fram ring′ fram′ text text′ at end m l c o s t f =
     let b = view-unit u ring fram in
-    let p : line-after (view-progress (m .progress)) ring′ ≡ printed b w = ap (λ (y : Moved). line-after (y .progress) (y .ring)) o ∙ sym (line-printed b w c) in
+    let p : line-after (view-progress (m .progress)) ring′ ≡ printed key b w = ap (λ (y : Moved). line-after (y .progress) (y .ring)) o ∙ sym (line-printed key b w c) in
     let q = taken s in
     record {
-      unit = (λ i. record { ring = o i .ring; fram = o i .fram; session = (f .0 ring′ fram′ ∙ ap (λ (y : Moved). session-after (view-cut u) y (view-held (u .held))) o) i; cut = f .1 i }) ∙ sym (step-operation b w c);
+      unit = (λ i. record { ring = o i .ring; fram = o i .fram; session = (f .0 ring′ fram′ ∙ ap (λ (y : Moved). session-after (view-cut u) y (view-held (u .held))) o) i; cut = f .1 i }) ∙ sym (step-operation key b w c);
       line-put = t .0 ∙ ap (put text at) (q .0 ∙ p);
       ends = t .1 ∙ ap (λ (n : ℕ). at + n) (q .1 ∙ ap length p);
       short = omega (arith, s .short, q .1, ap length p);

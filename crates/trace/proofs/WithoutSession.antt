@@ -5,7 +5,7 @@ use mathlib.Core.Path.{_≡_, refl, sym, ap, _∙_}
 use mathlib.Core.Bool.{Bool, true, false, cond, _||_}
 use mathlib.Core.Logic.{inl, inr}
 use mathlib.Core.Option.{some}
-use mathlib.Core.List.{[]}
+use mathlib.Core.List.{List, []}
 use native.Mathlib.Omega.{arith}
 use lib.ListN.{length}
 use borrow.Author.Tests.{eq-eqb, le-ltb}
@@ -20,18 +20,18 @@ use Rattle.checkpoint.specs.Fram.{fram-wrong, half-length}
 use Rattle.checkpoint.specs.Checkpoint.{Longer, part-wrong}
 use Rattle.protocol.specs.Types.{Stopped, this-firmware}
 use Rattle.protocol.specs.Calls.{from-session}
-use Rattle.protocol.specs.Operations.{key-wrong, nonce-wrong, staging-wrong, parts-wrong, packet-wrong, begin, no-session, from-wrong, ring-lines, save-stop, save}
+use Rattle.protocol.specs.Operations.{nonce-wrong, staging-wrong, parts-wrong, packet-wrong, begin, no-session, from-wrong, ring-lines, save-stop, save}
 use Rattle.protocol.specs.History.{State}
 use Rattle.protocol.proofs.Facts.{no-fact}
 use Rattle.protocol.proofs.Invariant.{DurableAt, Holds}
 use Rattle.protocol.proofs.Reading.{reads}
 use Rattle.protocol.proofs.FreeResults.{no-session-stale}
-use Rattle.trace.specs.Trace.{bench-pages, bench-slots, bench-sizes, fram-length, bench-key, bench-staging, nonce-of, saving}
+use Rattle.trace.specs.Trace.{bench-pages, bench-slots, bench-sizes, fram-length, bench-staging, nonce-of, saving, key-refused}
 use Rattle.trace.specs.Rule.{bench-setup}
 
-module _ (s : State) (inv : Holds bench-setup s) (long : length (s .fram) ≡ fram-length) (v : ℕ) (small : v < 2 ^ 28) where
-  lengths-pass : key-wrong (length bench-key) || nonce-wrong (length (nonce-of v)) ≡ false
-  lengths-pass = rw (eq-eqb (length (nonce-of v)) nonce-length (length-bytes nonce-length v))
+module _ (key : List ℕ) (right : key-refused key ≡ false) (s : State) (inv : Holds (bench-setup key) s) (long : length (s .fram) ≡ fram-length) (v : ℕ) (small : v < 2 ^ 28) where
+  lengths-pass : key-refused key || nonce-wrong (length (nonce-of v)) ≡ false
+  lengths-pass = rw (right, eq-eqb (length (nonce-of v)) nonce-length (length-bytes nonce-length v))
 
   parts-pass : parts-wrong this-firmware [] (bytes 4 v) (s .fram) || staging-wrong bench-staging (s .fram) ≡ false
   unfolding parts-wrong part-wrong staging-wrong half-length
@@ -45,17 +45,17 @@ module _ (s : State) (inv : Holds bench-setup s) (long : length (s .fram) ≡ fr
   unfolding packet-wrong
   packet-passes = le-ltb packet-limit v (omega arith)
 
-  stop-blank : blank (s .ring) ≡ true → save-stop this-firmware (s .ring) (s .fram) (saving v bench-staging (from-session no-session)) ≡ some 6
+  stop-blank : blank (s .ring) ≡ true → save-stop this-firmware (s .ring) (s .fram) (saving key v bench-staging (from-session no-session)) ≡ some 6
   unfolding save-stop from-wrong ring-lines first-of
   stop-blank b = rw (inv .ring-right, fram-passes, lengths-pass, parts-pass, packet-passes, read-blank bench-pages bench-slots (s .ring) (inv .ring-right) b)
 
   stop-recorded : is-blank (read-ring (s .ring) bench-pages bench-slots) ≡ false → is-unreadable (read-ring (s .ring) bench-pages bench-slots) ≡ false
-      → save-stop this-firmware (s .ring) (s .fram) (saving v bench-staging (from-session no-session)) ≡ some 8
+      → save-stop this-firmware (s .ring) (s .fram) (saving key v bench-staging (from-session no-session)) ≡ some 8
   unfolding save-stop from-wrong ring-lines first-of
   stop-recorded b u =
       rw (inv .ring-right, fram-passes, lengths-pass, parts-pass, packet-passes, b, u, no-session-stale (s .ring) bench-sizes (inv .ring-right) b u)
 
-  answer-is : (x : ℕ) → save-stop this-firmware (s .ring) (s .fram) (saving v bench-staging (from-session no-session)) ≡ some x → save this-firmware (s .ring) (s .fram) (saving v bench-staging (from-session no-session)) .answer ≡ Stopped x
+  answer-is : (x : ℕ) → save-stop this-firmware (s .ring) (s .fram) (saving key v bench-staging (from-session no-session)) ≡ some x → save this-firmware (s .ring) (s .fram) (saving key v bench-staging (from-session no-session)) .answer ≡ Stopped x
   unfolding save begin
   answer-is x e = rw e
 
@@ -63,10 +63,10 @@ module _ (s : State) (inv : Holds bench-setup s) (long : length (s .fram) ≡ fr
   blank-not e false q = refl
   blank-not e true q = no-fact (sym (ap is-blank (read-blank bench-pages bench-slots (s .ring) (inv .ring-right) q)) ∙ e)
 
-  pub without-session : save this-firmware (s .ring) (s .fram) (saving v bench-staging (from-session no-session)) .answer ≡ Stopped (cond (blank (s .ring)) 6 8)
+  pub without-session : save this-firmware (s .ring) (s .fram) (saving key v bench-staging (from-session no-session)) .answer ≡ Stopped (cond (blank (s .ring)) 6 8)
   without-session = go (inv .durable)
     where
-      go : DurableAt bench-setup s (s .ring) (s .fram) (s .journal .owed) → save this-firmware (s .ring) (s .fram) (saving v bench-staging (from-session no-session)) .answer ≡ Stopped (cond (blank (s .ring)) 6 8)
+      go : DurableAt (bench-setup key) s (s .ring) (s .fram) (s .journal .owed) → save this-firmware (s .ring) (s .fram) (saving key v bench-staging (from-session no-session)) .answer ≡ Stopped (cond (blank (s .ring)) 6 8)
       go (inl x) = answer-is 6 (stop-blank (x .ring-blank)) ∙ ap (λ (b : Bool). Stopped (cond b 6 8)) (sym (x .ring-blank))
       go (inr (c, r)) =
           let n = reads (inv .fram-right) r in

@@ -31,11 +31,11 @@ abbrev pub view-unit : Unit → List ℕ → List ℕ → Bench
 view-unit u ring fram = record { ring = ring; fram = fram; session = view-held (u .held); cut = view-cut u }
 
 -- what a word did to the unit, and the line that was written at an offset of the text
-pub record Stepped (b : Bench) (w : ℕ) (text : List ℕ) (at : ℕ) (r : Step) (ring fram text′ : List ℕ) : Type 0 where
-  pub unit : view-unit (r .unit) ring fram ≡ step b w
-  pub line-put : text′ ≡ put text at (printed b w)
-  pub ends : r .end ≡ at + length (printed b w)
-  pub short : length (printed b w) ≤ line-limit
+pub record Stepped (key : List ℕ) (b : Bench) (w : ℕ) (text : List ℕ) (at : ℕ) (r : Step) (ring fram text′ : List ℕ) : Type 0 where
+  pub unit : view-unit (r .unit) ring fram ≡ step key b w
+  pub line-put : text′ ≡ put text at (printed key b w)
+  pub ends : r .end ≡ at + length (printed key b w)
+  pub short : length (printed key b w) ≤ line-limit
 
 -- what a start answers, with what it left in staging
 pub record Starts (r : Started) (staging : List ℕ) (b : Begin) : Type 0 where
@@ -48,9 +48,9 @@ abbrev pub view-traced : Traced → List ℕ → List ℕ → List ℕ → Run
 view-traced r ring fram text = record { stop = check-number (r .check); written = r .written; ring = ring; fram = fram; text = text }
 
 -- the words were run on the blank bench, and their lines written to the front of a text
-pub record Ran (words text : List ℕ) (written : ℕ) (ring′ fram′ text′ : List ℕ) : Type 0 where
-  pub ring : ring′ ≡ after blank-bench words .ring
-  pub fram : fram′ ≡ after blank-bench words .fram
-  pub lines-put : text′ ≡ put text 0 (lines blank-bench words)
-  pub long : written ≡ length (lines blank-bench words)
+pub record Ran (key words text : List ℕ) (written : ℕ) (ring′ fram′ text′ : List ℕ) : Type 0 where
+  pub ring : ring′ ≡ after key blank-bench words .ring
+  pub fram : fram′ ≡ after key blank-bench words .fram
+  pub lines-put : text′ ≡ put text 0 (lines key blank-bench words)
+  pub long : written ≡ length (lines key blank-bench words)
   pub fits : written ≤ length text

@@ -4,6 +4,7 @@ use crate::RING_LENGTH;
 use crate::TEXT_LENGTH;
 use crate::unit::new_unit;
 use crate::words::trace_wrong;
+use gcm::key_wrong;
 use octets::fill;
 use octets::word_at;
 use stops::Check;
@@ -22,46 +23,54 @@ pub struct Traced {
     pub written: usize,
 }
 
-// Stops 1, 2, 4 and 20. Nothing is stored.
-fn trace_check(trace: &[u8], ring: &[u8], fram: &[u8], text: &[u8]) -> Check
-    ensures { λ r. ⌜ check-number r ≡ trace-stop (now (trace .entry)) (now (ring .entry)) (now (fram .entry)) (now (text .entry)) ⌝ }
+// Stops 1 to 4 and 20. Nothing is stored.
+fn trace_check(key: &[u8], trace: &[u8], ring: &[u8], fram: &[u8], text: &[u8]) -> Check
+    ensures { λ r. ⌜ check-number r ≡ trace-stop (now (key .entry)) (now (trace .entry)) (now (ring .entry)) (now (fram .entry)) (now (text .entry)) ⌝ }
 {
     Check::Pass
         .stop_if(ring.len() != RING_LENGTH, Stop::RingSize)
         .stop_if(fram.len() != FRAM_LENGTH, Stop::FramSize)
+        .stop_if(key_wrong(key.len()), Stop::KeyNonceTagSize)
         .stop_if(text.len() < TEXT_LENGTH, Stop::BufferSize)
         .stop_if(trace_wrong(trace), Stop::BadTrace)
 }
 
-// Runs the words of a trace on a unit with blank memories, and answers the length of the lines.
-fn run_words(trace: &[u8], ring: &mut [u8], fram: &mut [u8], text: &mut [u8]) -> usize
+// Runs the words of a trace on a unit with this key and blank memories, and answers the length of the lines.
+fn run_words(key: &[u8], trace: &[u8], ring: &mut [u8], fram: &mut [u8], text: &mut [u8]) -> usize
     requires { ⌜ (length (now trace) ≤ 4 * trace-limit) × (length (now ring) ≡ ring-length) × (length (now fram) ≡ fram-length) × (text-length ≤ length (now text)) ⌝ }
-    ensures { λ r. ⌜ Ran (words-of (now (trace .entry))) (now (text .entry)) r (now (ring .exit)) (now (fram .exit)) (now (text .exit)) ⌝ }
+    ensures { λ r. ⌜ Ran (now (key .entry)) (words-of (now (trace .entry))) (now (text .entry)) r (now (ring .exit)) (now (fram .exit)) (now (text .exit)) ⌝ }
 {
     fill(ring, 0xFF);
     fill(fram, 0xFF);
     let mut unit = new_unit();
     let mut at = 0;
     for k in 0..trace.len() / 4 {
-        let next = unit.step(word_at(trace, 4 * k), ring, fram, text, at);
+        let next = unit.step(key, word_at(trace, 4 * k), ring, fram, text, at);
         unit = next.unit;
         at = next.end;
     }
     at
 }
 
-// Runs a trace, if all of it is in order, and writes the lines that are printed to the front of the text. On a stop every buffer stays as it was.
-pub fn run_trace(trace: &[u8], ring: &mut [u8], fram: &mut [u8], text: &mut [u8]) -> Traced
-    ensures { λ r. ⌜ (view-traced r (now (ring .exit)) (now (fram .exit)) (now (text .exit)) ≡ run-trace (now (trace .entry)) (now (ring .entry)) (now (fram .entry)) (now (text .entry))) × (r .written ≤ length (now (text .entry))) ⌝ }
+// Runs a trace under a key, if the key and all of the trace are in order, and writes the lines that are printed to the front of the text.
+// On a stop every buffer stays as it was.
+pub fn run_trace(
+    key: &[u8],
+    trace: &[u8],
+    ring: &mut [u8],
+    fram: &mut [u8],
+    text: &mut [u8],
+) -> Traced
+    ensures { λ r. ⌜ (view-traced r (now (ring .exit)) (now (fram .exit)) (now (text .exit)) ≡ run-trace (now (key .entry)) (now (trace .entry)) (now (ring .entry)) (now (fram .entry)) (now (text .entry))) × (r .written ≤ length (now (text .entry))) ⌝ }
 {
-    let check = trace_check(trace, ring, fram, text);
+    let check = trace_check(key, trace, ring, fram, text);
     match check {
         Check::Stopped(stop) => Traced {
             check: Check::Stopped(stop),
             written: 0,
         },
         Check::Pass => {
-            let written = run_words(trace, ring, fram, text);
+            let written = run_words(key, trace, ring, fram, text);
             Traced {
                 check: Check::Pass,
                 written,

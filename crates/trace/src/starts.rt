@@ -15,7 +15,6 @@ use keeper::no_job;
 use keeper::power_up;
 use octets::blank;
 use octets::copy_at;
-use octets::limits::KEY_LENGTH;
 use octets::limits::PART_LIMIT;
 use octets::limits::TAG_LENGTH;
 use octets::word_bytes;
@@ -40,16 +39,22 @@ fn nonce_of(value: u32) -> [u8; 12]
 }
 
 // The keeper's save, with what the bench gives it.
-fn start_save(from: From, value: u32, ring: &[u8], fram: &[u8], staging: &mut [u8]) -> Started
-    ensures { λ r. ⌜ Starts r (now (staging .exit)) (save this-firmware (now (ring .entry)) (now (fram .entry)) (saving value (now (staging .entry)) (view-from from))) ⌝ }
+fn start_save(
+    key: &[u8],
+    from: From,
+    value: u32,
+    ring: &[u8],
+    fram: &[u8],
+    staging: &mut [u8],
+) -> Started
+    ensures { λ r. ⌜ Starts r (now (staging .exit)) (save this-firmware (now (ring .entry)) (now (fram .entry)) (saving (now (key .entry)) value (now (staging .entry)) (view-from from))) ⌝ }
 {
-    let key = [0u8; KEY_LENGTH];
     from.save(
         PAGES,
         SLOTS,
         ring,
         fram,
-        &key,
+        key,
         &nonce_of(value),
         value as usize,
         b"",
@@ -58,12 +63,12 @@ fn start_save(from: From, value: u32, ring: &[u8], fram: &[u8], staging: &mut [u
     )
 }
 
-fn start_first(value: u32, ring: &[u8], fram: &[u8], staging: &mut [u8]) -> Started
-    ensures { λ r. ⌜ Starts r (now (staging .exit)) (save this-firmware (now (ring .entry)) (now (fram .entry)) (saving value (now (staging .entry)) zero-tag)) ⌝ }
+fn start_first(key: &[u8], value: u32, ring: &[u8], fram: &[u8], staging: &mut [u8]) -> Started
+    ensures { λ r. ⌜ Starts r (now (staging .exit)) (save this-firmware (now (ring .entry)) (now (fram .entry)) (saving (now (key .entry)) value (now (staging .entry)) zero-tag)) ⌝ }
 {
     let tag = [0u8; TAG_LENGTH];
     let from = from_tag(&tag);
-    start_save(from, value, ring, fram, staging)
+    start_save(key, from, value, ring, fram, staging)
 }
 
 // With no session the keeper is not called.
@@ -83,28 +88,34 @@ fn no_save(ring: &[u8]) -> Started
     }
 }
 
-fn start_next(held: Held, value: u32, ring: &[u8], fram: &[u8], staging: &mut [u8]) -> Started
-    ensures { λ r. ⌜ Starts r (now (staging .exit)) (save-with (now (ring .entry)) (now (fram .entry)) (view-held held) value (now (staging .entry))) ⌝ }
+fn start_next(
+    key: &[u8],
+    held: Held,
+    value: u32,
+    ring: &[u8],
+    fram: &[u8],
+    staging: &mut [u8],
+) -> Started
+    ensures { λ r. ⌜ Starts r (now (staging .exit)) (save-with (now (key .entry)) (now (ring .entry)) (now (fram .entry)) (view-held held) value (now (staging .entry))) ⌝ }
 {
     if held.present {
         let session = held.session;
         let from = from_session(session);
-        return start_save(from, value, ring, fram, staging);
+        return start_save(key, from, value, ring, fram, staging);
     }
     no_save(ring)
 }
 
-fn start_power_up(value: u32, ring: &[u8], fram: &[u8], staging: &mut [u8]) -> Started
-    ensures { λ r. ⌜ Starts r (now (staging .exit)) (power-up this-firmware (now (ring .entry)) (now (fram .entry)) (powering-up value (now (staging .entry)))) ⌝ }
+fn start_power_up(key: &[u8], value: u32, ring: &[u8], fram: &[u8], staging: &mut [u8]) -> Started
+    ensures { λ r. ⌜ Starts r (now (staging .exit)) (power-up this-firmware (now (ring .entry)) (now (fram .entry)) (powering-up (now (key .entry)) value (now (staging .entry)))) ⌝ }
 {
-    let key = [0u8; KEY_LENGTH];
     let mut state = [0u8; PART_LIMIT];
     let powered = power_up(
         PAGES,
         SLOTS,
         ring,
         fram,
-        &key,
+        key,
         &nonce_of(value),
         staging,
         &mut state,
@@ -115,14 +126,21 @@ fn start_power_up(value: u32, ring: &[u8], fram: &[u8], staging: &mut [u8]) -> S
 }
 
 // The start that a word names. In a trace that was checked a word that is no cut, no first save and no save is a power-up.
-pub(crate) fn start(w: u32, held: Held, ring: &[u8], fram: &[u8], staging: &mut [u8]) -> Started
-    ensures { λ r. ⌜ Starts r (now (staging .exit)) (start (now (ring .entry)) (now (fram .entry)) (view-held held) w (now (staging .entry))) ⌝ }
+pub(crate) fn start(
+    key: &[u8],
+    w: u32,
+    held: Held,
+    ring: &[u8],
+    fram: &[u8],
+    staging: &mut [u8],
+) -> Started
+    ensures { λ r. ⌜ Starts r (now (staging .exit)) (start (now (key .entry)) (now (ring .entry)) (now (fram .entry)) (view-held held) w (now (staging .entry))) ⌝ }
 {
     if kind(w) == FIRST_SAVE {
-        return start_first(value(w), ring, fram, staging);
+        return start_first(key, value(w), ring, fram, staging);
     }
     if kind(w) == SAVE {
-        return start_next(held, value(w), ring, fram, staging);
+        return start_next(key, held, value(w), ring, fram, staging);
     }
-    start_power_up(value(w), ring, fram, staging)
+    start_power_up(key, value(w), ring, fram, staging)
 }

@@ -156,12 +156,12 @@ impl Unit {
     }
 
     // The operation that a word names.
-    fn operate(self, w: u32, ring: &mut [u8], fram: &mut [u8]) -> Advanced
-        ensures { λ r. ⌜ view-advanced r (now (ring .exit)) (now (fram .exit)) ≡ operation (view-unit self (now (ring .entry)) (now (fram .entry))) w ⌝ }
+    fn operate(self, key: &[u8], w: u32, ring: &mut [u8], fram: &mut [u8]) -> Advanced
+        ensures { λ r. ⌜ view-advanced r (now (ring .exit)) (now (fram .exit)) ≡ operation (now (key .entry)) (view-unit self (now (ring .entry)) (now (fram .entry))) w ⌝ }
     {
         let mut staging = [0u8; HALF_LENGTH];
         let held = self.held;
-        let begun = start(w, held, ring, fram, &mut staging);
+        let begun = start(key, w, held, ring, fram, &mut staging);
         store_on(started(begun), self.stores_until(), ring, fram, &staging)
     }
 
@@ -217,6 +217,7 @@ impl Unit {
     // One word more. The line of an operation is written to the text from offset `at` on.
     pub(crate) fn step(
         self,
+        key: &[u8],
         w: u32,
         ring: &mut [u8],
         fram: &mut [u8],
@@ -224,7 +225,7 @@ impl Unit {
         at: usize,
     ) -> Step
         requires { ⌜ at + line-limit ≤ length (now text) ⌝ }
-        ensures { λ r. ⌜ Stepped (view-unit self (now (ring .entry)) (now (fram .entry))) w (now (text .entry)) at r (now (ring .exit)) (now (fram .exit)) (now (text .exit)) ⌝ }
+        ensures { λ r. ⌜ Stepped (now (key .entry)) (view-unit self (now (ring .entry)) (now (fram .entry))) w (now (text .entry)) at r (now (ring .exit)) (now (fram .exit)) (now (text .exit)) ⌝ }
     {
         if is_cut(w) {
             return Step {
@@ -232,7 +233,7 @@ impl Unit {
                 end: at,
             };
         }
-        let moved = self.operate(w, ring, fram);
+        let moved = self.operate(key, w, ring, fram);
         let progress = moved.progress;
         let end = put_line(line_after(progress, ring), text, at);
         Step {

@@ -58,7 +58,8 @@ extern "C" {
     fn keeper_wipe(buffer: *mut u8, buffer_len: usize);
 }
 
-/// Seals `text` with `aad` beside it into the front of `out`, and its tag into `tag`.
+/// Seals `text` with `aad` beside it into the front of `out`, and its tag into `tag`: by AES-128-GCM or AES-256-GCM, as
+/// `key` has 16 bytes or 32.
 pub fn seal(key: &[u8], nonce: &[u8], aad: &[u8], text: &[u8], out: &mut [u8], tag: &mut [u8]) -> u32 {
     // Sound: see the top of this file.
     unsafe {

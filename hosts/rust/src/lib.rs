@@ -1,5 +1,8 @@
-//! The checkpoint keeper of a baby monitor's parent unit. It seals a unit's state by AES-256-GCM, stores it one store at
-//! a time in two lent memory images, and finds it after a restart.
+//! The checkpoint keeper of a baby monitor's parent unit. It seals a unit's state by AES-GCM, stores it one store at a
+//! time in two lent memory images, and finds it after a restart.
+//!
+//! A key is 16 bytes, for AES-128-GCM, or 32, for AES-256-GCM; any other length is [`Stop::KeyNonceTagSize`]. Which of the
+//! two a unit has is not stored: a key of the other length is another key.
 //!
 //! The two images are the caller's:
 //!
@@ -47,7 +50,7 @@
 //! let mut ring = [0xFF; 16 * 3 * 2];
 //! let mut fram = [0; 256];
 //! let mut staging = [0; 128];
-//! // On a unit the key is the device's, and the random generator makes each nonce and the starting tag.
+//! // On a unit the key is the device's, 16 bytes or 32, and the random generator makes each nonce and the starting tag.
 //! let key = [7; 32];
 //!
 //! // No packet was heard yet; then packet 7.
@@ -180,19 +183,36 @@ pub enum Progress {
 }
 
 /// Seals `text` of up to 65,536 bytes, with up to 65,536 bytes of associated data, into the front of `out` and answers
-/// the tag. The rest of `out` keeps its contents.
+/// the tag: by AES-128-GCM with a key of 16 bytes, by AES-256-GCM with one of 32. The rest of `out` keeps its contents.
 ///
 /// # Errors
 ///
 /// [`Stop::KeyNonceTagSize`], [`Stop::BufferSize`].
+///
+/// # Keys of either length
+///
+/// ```
+/// use godwitshelf::*;
+///
+/// # fn main() -> Result<(), Stop> {
+/// // The first test cases of GCM's authors for both lengths: nothing, sealed under zeros.
+/// let tag = seal(&[0; 16], &[0; 12], b"", b"", &mut [])?;
+/// assert_eq!(u128::from_be_bytes(tag), 0x58e2fccefa7e3061367f1d57a4e7455a);
+/// let tag = seal(&[0; 32], &[0; 12], b"", b"", &mut [])?;
+/// assert_eq!(u128::from_be_bytes(tag), 0x530f8afbc74536b9a963b4f1c4cb738b);
+///
+/// assert_eq!(seal(&[0; 24], &[0; 12], b"", b"", &mut []), Err(Stop::KeyNonceTagSize));
+/// # Ok(())
+/// # }
+/// ```
 pub fn seal(key: &[u8], nonce: &[u8], aad: &[u8], text: &[u8], out: &mut [u8]) -> Result<[u8; 16], Stop> {
     let mut tag = [0; 16];
     done(calls::seal(key, nonce, aad, text, out, &mut tag))?;
     Ok(tag)
 }
 
-/// Opens `cipher` into the front of `out`, if `tag` is the standard's for associated data, text, nonce and key. The
-/// rest of `out` keeps its contents.
+/// Opens `cipher` into the front of `out`, if `tag` is the standard's for associated data, text, nonce and key, which is
+/// of either length. The rest of `out` keeps its contents.
 ///
 /// # Errors
 ///

@@ -11,8 +11,8 @@ pub enum Stop {
     RingSize = 1,
     /// 2: the length of the FRAM, or of an image to export or import, wrong.
     FramSize,
-    /// 3: key not 32, nonce not 12 or tag not 16 bytes; of [`calls::save`](crate::calls::save), `from` neither 16 bytes nor
-    /// 48.
+    /// 3: key neither 16 nor 32, nonce not 12 or tag not 16 bytes; of [`calls::save`](crate::calls::save), `from` neither
+    /// 16 bytes nor 48.
     KeyNonceTagSize,
     /// 4: a part not a multiple of 4 bytes, above 32,768, or the checkpoint longer than a half; staging, state, output or
     /// an export's text buffer too short; text or associated data above 65,536 bytes; a checkpoint of the older form that
@@ -87,7 +87,7 @@ impl Stop {
             Stop::RingSize => "pages, slots or ring length wrong",
             Stop::FramSize => "FRAM or image length wrong",
             Stop::KeyNonceTagSize => {
-                "key not 32, nonce not 12 or tag not 16 bytes; or a save that follows neither 16 nor 48"
+                "key neither 16 nor 32, nonce not 12 or tag not 16 bytes; or a save that follows neither 16 nor 48"
             }
             Stop::BufferSize => {
                 "a part not a multiple of 4 bytes, above 32,768, or the checkpoint longer than a half; \

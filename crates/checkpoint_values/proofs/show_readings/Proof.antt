@@ -5,10 +5,10 @@ use Rattle.checkpoint_values.proofs.show_readings.Statement.{statement}
 use Rattle.checkpoint_values.proofs.show_readings.Tie as tie
 
 abbrev Inv-loop : tie.InvT-loop
-Inv-loop k₀ k = k ≤ 10
+Inv-loop short from to k₀ k = 0 ≤ k
 
 abbrev μ-loop : tie.MeasureT-loop
-μ-loop k₀ k = 10 - k
+μ-loop short from to k₀ k = to - k
 
 pub show-readings-spec : {M : Type 1} → statement M
 show-readings-spec =

@@ -1,20 +1,20 @@
 -- `gcm::open_checked` meets its contract: where the tag is right the text is written, else nothing is. Assumes nothing.
 use mathlib.Core.Bool.{true, false}
 use mathlib.Core.Logic.{_⊎_, inl, inr, ⊎-elim}
-use mathlib.Core.Path.{_≡_, refl, ap, _∙_}
+use mathlib.Core.Path.{_≡_, ap, _∙_}
 use native.Mathlib.Omega.{arith}
 use borrow.Author.Needs.{needs}
 use lib.ListN.{length}
 use Rattle.octets.specs.Octets.{put, same}
 use Rattle.gcm.specs.Gcm.{encrypted}
 use Rattle.gcm.proofs.Checks.{Fit, open-fits}
-use Rattle.gcm.proofs.Keys.{whole-key, text-written, tag-is}
+use Rattle.gcm.proofs.Keys.{text-written, tag-is}
 use Rattle.gcm.proofs.Outcomes.{opened}
 use Rattle.gcm.proofs.open_checked.Statement.{statement}
 use Rattle.gcm.proofs.open_checked.Tie as tie
 
 abbrev start : tie.After-round-table → tie.Start
-start c = c .before .before .before .before .before .before .before
+start c = c .before .before .before .before .before .before .before .before
 
 fit-at : (c : tie.After-round-table) →
     let a = start c .args in
@@ -22,7 +22,7 @@ fit-at : (c : tie.After-round-table) →
 fit-at c = let s = start c in open-fits _ _ _ _ (length (s .args .given .now)) _ (s .pre)
 
 expand-key-requires : tie.Need-expand-key-requires
-expand-key-requires c κs = whole-key _ (fit-at c .key-fits)
+expand-key-requires c κs = fit-at c .key-fits
 
 hash-steps-requires : tie.Need-hash-steps-requires
 hash-steps-requires c κs =
@@ -56,7 +56,7 @@ out-at c =
     let a = start made .args in
     let expanded = c .before .before .before .before .before .before .before .before .before .before in
     ⊎-elim
-    (λ w. inl (w .0 .taken, text-written (a .key .now) _ _ (whole-key _ (fit-at made .key-fits)) (expanded .expand-key .ensures) refl (a .nonce .now) (a .text .now) (a .out .now) _ (w .7 ∙ w .4 .ensures)))
+    (λ w. inl (w .0 .taken, text-written (a .key .now) _ _ (fit-at made .key-fits) (expanded .expand-key .ensures) (made .before .rounds .ensures) (a .nonce .now) (a .text .now) (a .out .now) _ (w .7 ∙ w .4 .ensures)))
     (λ w. inr (w .0 .left, w .1))
     (c .if1 .came)
 
@@ -72,7 +72,7 @@ returns c =
     let made = expanded .before in
     let s = start made in
     let a = s .args in
-    let right = tagged .tag-of .ensures ∙ tag-is (a .key .now) _ _ (whole-key _ (fit-at made .key-fits)) (expanded .expand-key .ensures) refl (a .nonce .now) (a .aad .now) (a .text .now) in
+    let right = tagged .tag-of .ensures ∙ tag-is (a .key .now) _ _ (fit-at made .key-fits) (expanded .expand-key .ensures) (made .before .rounds .ensures) (a .nonce .now) (a .aad .now) (a .text .now) in
     opened (a .key .now) (a .nonce .now) (a .aad .now) (a .text .now) (a .given .now) (a .out .now) (compared .same .result) _ (joined .if1 .out) (s .pre) (compared .same .ensures ∙ ap (same (a .given .now)) right) (c .stop-if .ensures) (out-at joined)
 
 pub open-checked-spec : {M : Type 1} → statement M

@@ -1,16 +1,16 @@
 -- `gcm::seal_checked` meets its contract. Assumes nothing.
-use mathlib.Core.Path.{refl, sym}
+use mathlib.Core.Path.{sym}
 use native.Mathlib.Omega.{arith}
 use borrow.Author.Needs.{needs}
 use lib.ListN.{length}
 use lib.Seq.{length-take-le}
 use Rattle.gcm.proofs.Checks.{Fit, seal-fits}
-use Rattle.gcm.proofs.Keys.{whole-key, text-written, tag-written}
+use Rattle.gcm.proofs.Keys.{text-written, tag-written}
 use Rattle.gcm.proofs.seal_checked.Statement.{statement}
 use Rattle.gcm.proofs.seal_checked.Tie as tie
 
 abbrev start : tie.After-round-table → tie.Start
-start c = c .before .before .before .before .before .before
+start c = c .before .before .before .before .before .before .before
 
 fit-at : (c : tie.After-round-table) →
     let a = start c .args in
@@ -18,7 +18,7 @@ fit-at : (c : tie.After-round-table) →
 fit-at c = seal-fits _ _ _ _ _ (start c .pre)
 
 expand-key-requires : tie.Need-expand-key-requires
-expand-key-requires c κs = whole-key _ (fit-at c .key-fits)
+expand-key-requires c κs = fit-at c .key-fits
 
 hash-steps-requires : tie.Need-hash-steps-requires
 hash-steps-requires c κs =
@@ -57,10 +57,11 @@ returns c =
     let expanded = written .before .before .before .before .before .before .before in
     let f = fit-at (expanded .before) in
     let a = start (expanded .before) .args in
-    let key = whole-key _ (f .key-fits) in
-    let keys = expanded .expand-key .ensures in (
-      tag-written (a .key .now) _ _ key keys refl (a .nonce .now) (a .aad .now) (a .text .now) (a .out .now) _ _ (written .encrypt .ensures) (tagged .tag-of .ensures),
-      text-written (a .key .now) _ _ key keys refl (a .nonce .now) (a .text .now) (a .out .now) _ (written .encrypt .ensures),
+    let key = f .key-fits in
+    let keys = expanded .expand-key .ensures in
+    let many = expanded .before .before .rounds .ensures in (
+      tag-written (a .key .now) _ _ key keys many (a .nonce .now) (a .aad .now) (a .text .now) (a .out .now) _ _ (written .encrypt .ensures) (tagged .tag-of .ensures),
+      text-written (a .key .now) _ _ key keys many (a .nonce .now) (a .text .now) (a .out .now) _ (written .encrypt .ensures),
     )
 
 pub seal-checked-spec : {M : Type 1} → statement M

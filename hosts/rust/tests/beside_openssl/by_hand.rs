@@ -7,15 +7,15 @@ use crate::operations::*;
 use crate::random::Random;
 use std::rc::Rc;
 
-/// A unit with a blank ring and these sizes; both parts are 4 bytes.
-pub fn lent(pages: usize, slots: usize, fram: usize) -> Lent {
+/// A unit with a key of this length, a blank ring and these sizes; both parts are 4 bytes.
+pub fn lent(key_length: usize, pages: usize, slots: usize, fram: usize) -> Lent {
     let mut random = Random::new(17);
     Lent {
         pages,
         slots,
         ring: vec![0xFF; 16 * pages * slots],
         fram: random.bytes(fram),
-        key: random.bytes(32),
+        key: random.bytes(key_length),
         nonce: vec![0; 12],
         starting_tag: random.bytes(16),
         session: vec![0; 48],

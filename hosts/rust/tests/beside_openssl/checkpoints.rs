@@ -26,11 +26,11 @@ fn finished(ring: &mut [u8], fram: &mut [u8], staging: &[u8], mut job: Job) -> S
 
 /// A first save, a save, a power-up and a save that hears no newer packet, which carries the power-up's restart over: in
 /// halves A, B, A and B.
-fn four_checkpoints(random: &mut Random, open: usize, secret: usize, spare: usize) {
+fn four_checkpoints(random: &mut Random, key_length: usize, open: usize, secret: usize, spare: usize) {
     let half = (48 + open + secret + 4 * spare).div_ceil(4) * 4;
     let mut ring = vec![0xFF; 16 * 6];
     let mut fram = random.bytes(2 * half);
-    let key = random.bytes(32);
+    let key = random.bytes(key_length);
     let before = random.bytes(half + spare);
     let nonces: [[u8; 12]; 4] = std::array::from_fn(|_| random.bytes(12).try_into().unwrap());
     let mut packets = [random.next(), random.next(), random.next()].map(|number| number as u32 & LARGEST_PACKET);
@@ -90,29 +90,29 @@ fn four_checkpoints(random: &mut Random, open: usize, secret: usize, spare: usiz
     assert!(half_of(&fram, 1)[..sealed.len()] == sealed);
 }
 
-#[test]
-fn small_parts_of_every_size() {
+for_each_key_length!(small_parts_of_every_size, parts_to_32768);
+
+fn small_parts_of_every_size(key_length: usize) {
     let mut random = Random::new(5);
     for open in 0..=24 {
         for secret in 0..=24 {
-            four_checkpoints(&mut random, 4 * open, 4 * secret, (open + secret) % 3);
+            four_checkpoints(&mut random, key_length, 4 * open, 4 * secret, (open + secret) % 3);
         }
     }
 }
 
-#[test]
-fn parts_to_32768() {
+fn parts_to_32768(key_length: usize) {
     let mut random = Random::new(6);
     let most = KEEPER.part_limit;
     let limits = [0, 4, 4096, 4100, most - 4, most];
     for open in limits {
         for secret in limits {
-            four_checkpoints(&mut random, open, secret, 0);
+            four_checkpoints(&mut random, key_length, open, secret, 0);
         }
     }
     for _ in 0..100 {
         let [open, secret] = [0; 2].map(|_| 4 * random.below(most / 4 + 1));
         let spare = random.below(50);
-        four_checkpoints(&mut random, open, secret, spare);
+        four_checkpoints(&mut random, key_length, open, secret, spare);
     }
 }

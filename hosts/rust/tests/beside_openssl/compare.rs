@@ -8,15 +8,15 @@ use std::collections::{BTreeMap, BTreeSet};
 use std::rc::Rc;
 
 thread_local! {
-    /// How often each call gave each answer, in this thread's test.
-    pub static ANSWERS: RefCell<BTreeMap<(Operation, u32), usize>> = const { RefCell::new(BTreeMap::new()) };
-    /// What else was met with, in this thread's test.
-    pub static SEEN: RefCell<BTreeSet<&'static str>> = const { RefCell::new(BTreeSet::new()) };
+    /// How often each call gave each answer to a key of each length, in this thread's test.
+    pub static ANSWERS: RefCell<BTreeMap<(usize, Operation, u32), usize>> = const { RefCell::new(BTreeMap::new()) };
+    /// What else was met with, with a unit's key of each length, in this thread's test.
+    pub static SEEN: RefCell<BTreeSet<(usize, String)>> = const { RefCell::new(BTreeSet::new()) };
 }
 
-/// Notes that this was met with.
-pub fn saw(what: &'static str) {
-    SEEN.with_borrow_mut(|seen| seen.insert(what));
+/// Notes that this was met with, in a unit with a key of this length.
+pub fn saw(key_length: usize, what: impl Into<String>) {
+    SEEN.with_borrow_mut(|seen| seen.insert((key_length, what.into())));
 }
 
 /// The keeper's own call.
@@ -53,7 +53,7 @@ pub fn calls_in_a_row(operation: Operation, times: usize, lent: &mut Lent) -> Re
         if answer != expected_answer {
             return Err(format!("{operation:?} answers {answer}, not {expected_answer}"));
         }
-        ANSWERS.with_borrow_mut(|answers| *answers.entry((operation, answer)).or_default() += 1);
+        ANSWERS.with_borrow_mut(|answers| *answers.entry((lent.key.len(), operation, answer)).or_default() += 1);
         answers.push(answer);
     }
     if *lent != expected {

@@ -1,6 +1,7 @@
 //! Every cut of a whole save and of a whole power-up, in every place of the newest record, with several leftovers; then
 //! every cut of the power-up that follows; after each a power-up that must resume the checkpoint recorded last. The save
-//! and the power-up are the keeper's or an older firmware's, the power-ups that follow the keeper's.
+//! and the power-up are the keeper's, with a key of either length, or an older firmware's; the power-ups that follow are the
+//! keeper's.
 
 use crate::firmware::{Firmware, DOCUMENT_01, KEEPER};
 use crate::unit::{Heard, Left, Setup, Unit};
@@ -54,6 +55,7 @@ fn every_cut_of(unit: &Unit, start: Start) -> Result<(), String> {
     for (first, unit) in after_every_cut(&started)? {
         let here = |words: String| format!("{start:?} cut {first}: {words}");
         unit.trial().map_err(here)?;
+        unit.trial_of_other_keys().map_err(here)?;
         let mut again = unit.clone();
         again.update(KEEPER);
         again.power_up().map_err(here)?;
@@ -65,8 +67,8 @@ fn every_cut_of(unit: &Unit, start: Start) -> Result<(), String> {
 }
 
 /// Records in every place of the ring, twice around; every third is a power-up's.
-fn every_cut(firmware: Firmware, pages: usize, slots: usize, half: usize) -> Result<(), String> {
-    let mut unit = Unit::new(&Setup { pages, slots, fram: 2 * half, firmware, seed: 7 });
+fn every_cut(firmware: Firmware, key_length: usize, pages: usize, slots: usize, half: usize) -> Result<(), String> {
+    let mut unit = Unit::new(&Setup { pages, slots, fram: 2 * half, firmware, key_length, seed: 7 });
     every_cut_of(&unit, Start::FirstSave)?;
     for n in 0..2 * pages * slots {
         let start = match n {
@@ -85,23 +87,23 @@ fn every_cut(firmware: Firmware, pages: usize, slots: usize, half: usize) -> Res
     Ok(())
 }
 
-#[test]
-fn every_cut_on_3_pages_of_2_slots() {
-    every_cut(KEEPER, 3, 2, 48 + 12).unwrap_or_else(|words| panic!("{words}"));
+for_each_key_length!(every_cut_on_3_pages_of_2_slots, every_cut_on_4_pages_of_2_slots);
+
+fn every_cut_on_3_pages_of_2_slots(key_length: usize) {
+    every_cut(KEEPER, key_length, 3, 2, 48 + 12).unwrap_or_else(|words| panic!("{words}"));
 }
 
-#[test]
-fn every_cut_on_4_pages_of_2_slots() {
-    every_cut(KEEPER, 4, 2, 48 + 12).unwrap_or_else(|words| panic!("{words}"));
+fn every_cut_on_4_pages_of_2_slots(key_length: usize) {
+    every_cut(KEEPER, key_length, 4, 2, 48 + 12).unwrap_or_else(|words| panic!("{words}"));
 }
 
 #[test]
 fn every_cut_of_document_01s_firmware() {
-    every_cut(DOCUMENT_01, 3, 2, 48 + 12).unwrap_or_else(|words| panic!("{words}"));
+    every_cut(DOCUMENT_01, 32, 3, 2, 48 + 12).unwrap_or_else(|words| panic!("{words}"));
 }
 
 /// Its checkpoints fill their halves, so that a power-up gives 4.
 #[test]
 fn every_cut_of_document_01s_firmware_in_full_halves() {
-    every_cut(DOCUMENT_01, 3, 2, 44 + 12).unwrap_or_else(|words| panic!("{words}"));
+    every_cut(DOCUMENT_01, 32, 3, 2, 44 + 12).unwrap_or_else(|words| panic!("{words}"));
 }

@@ -1,5 +1,5 @@
-//! The firmwares that a unit may have: document 01's, those of document 02's A.2, A.5 and A.6, and that of A.7, which is
-//! the keeper's.
+//! The firmwares that a unit may have: document 01's, those of document 02's A.2, A.5, A.6 and A.7, and that of A.8, which
+//! is the keeper's.
 
 use crate::layout::Form;
 
@@ -12,6 +12,8 @@ pub struct Firmware {
     /// The limit of each part, written or read, and the least state buffer.
     pub part_limit: usize,
     pub fram_limit: usize,
+    /// The lengths of a key that it takes; stop 3 for any other.
+    pub key_lengths: &'static [usize],
     /// At power-up 11, 12 and 13 go before 10.
     pub half_first: bool,
     /// One save, with a starting tag or a session, for first save and save.
@@ -23,6 +25,7 @@ pub const DOCUMENT_01: Firmware = Firmware {
     form: Form::Older,
     part_limit: 4096,
     fram_limit: 131_072,
+    key_lengths: &[32],
     half_first: false,
     one_save: false,
 };
@@ -37,12 +40,28 @@ pub const A_5: Firmware = Firmware { name: "A.5's", part_limit: 32_768, fram_lim
 pub const A_6: Firmware = Firmware { name: "A.6's", half_first: true, ..A_5 };
 
 /// A.7: "Merge first save and save: the caller gives either a starting tag or a session."
-pub const KEEPER: Firmware = Firmware { name: "A.7's", one_save: true, ..A_6 };
+pub const A_7: Firmware = Firmware { name: "A.7's", one_save: true, ..A_6 };
+
+/// A.8: "Key expansion, sealing, opening and all above them take 16 or 32 bytes".
+pub const KEEPER: Firmware = Firmware { name: "A.8's", key_lengths: &[16, 32], ..A_7 };
 
 /// In the order in which a unit gets them.
-pub const FIRMWARES: [Firmware; 5] = [DOCUMENT_01, A_2, A_5, A_6, KEEPER];
+pub const FIRMWARES: [Firmware; 6] = [DOCUMENT_01, A_2, A_5, A_6, A_7, KEEPER];
 
 impl Firmware {
+    pub fn takes_key_of(self, length: usize) -> bool {
+        self.key_lengths.contains(&length)
+    }
+
+    /// This answer, or 3 where it does not take a key of this length.
+    pub fn or_3(self, key_length: usize, answer: u32) -> u32 {
+        if self.takes_key_of(key_length) {
+            answer
+        } else {
+            3
+        }
+    }
+
     /// Those that a unit with this one may be updated to.
     pub fn later(self) -> &'static [Firmware] {
         let at = FIRMWARES.iter().position(|firmware| *firmware == self).unwrap();

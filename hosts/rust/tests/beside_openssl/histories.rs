@@ -1,17 +1,18 @@
 //! Random histories under demand 3. `HISTORIES=n SEED=s cargo test histories` runs n of them from seed s on. One that
 //! fails is made smaller, event by event and number by number, and printed. In some the unit begins with an older firmware,
-//! which it has up to a cut, or to the end.
+//! which it has up to a cut, or to the end. A unit's key has 16 bytes or 32, by the seed.
 
 use crate::compare::{ANSWERS, SEEN};
-use crate::firmware::{Firmware, A_2, A_5, A_6, DOCUMENT_01, KEEPER};
-use crate::history::{Event, History, Twist};
+use crate::firmware::{Firmware, A_2, A_5, A_6, A_7, DOCUMENT_01, FIRMWARES, KEEPER};
+use crate::history::{updated, Event, History, Twist};
 use crate::layout::{Form, LARGEST_PACKET};
 use crate::operations::Operation;
 use crate::random::Random;
 use crate::unit::{Heard, Left, Setup};
+use std::collections::BTreeSet;
 use std::env;
 
-const HISTORIES: u64 = 1000;
+const HISTORIES: u64 = 1500;
 
 #[test]
 fn histories() {
@@ -27,71 +28,90 @@ fn histories() {
             panic!("\nSEED={seed} HISTORIES=1 fails; the smallest history found that does:\n{history}at event {at}: {words}\n");
         }
     }
-    let answers: Vec<(Operation, u32)> = ANSWERS.with_borrow(|answers| answers.keys().copied().collect());
-    let every = every_answer();
-    let other: Vec<_> = answers.iter().filter(|answer| !every.contains(answer)).collect();
+    let answers: BTreeSet<(usize, Operation, u32)> = ANSWERS.with_borrow(|answers| answers.keys().copied().collect());
+    let other: Vec<_> =
+        answers.iter().filter(|(key, call, answer)| !every_answer(*key, *call).contains(answer)).collect();
     assert!(other.is_empty(), "answers that the documents do not have: {other:?}");
     // In fewer histories, or from other seeds, some may not occur.
     if (first, count) == (1, HISTORIES) {
-        assert_eq!(answers, every);
-        let seen: Vec<&str> = SEEN.with_borrow(|seen| seen.iter().copied().collect());
-        assert_eq!(seen, TO_BE_SEEN);
+        for key_length in KEEPER.key_lengths {
+            for call in CALLS {
+                let given: Vec<u32> = answers
+                    .range((*key_length, call, 0)..=(*key_length, call, u32::MAX))
+                    .map(|(_, _, answer)| *answer)
+                    .collect();
+                assert_eq!(given, every_answer(*key_length, call), "{call:?}, with a key of {key_length} bytes");
+            }
+        }
+        SEEN.with_borrow(|seen| assert_eq!(*seen, to_be_seen()));
     }
 }
 
-/// What A.2, A.5, A.6 and A.7 add and no answer shows by itself, in the order of the alphabet.
-const TO_BE_SEEN: [&str; 19] = [
-    "13 before the resealing's 4",
-    "13 for the older form",
-    "13 though the nonce is used",
-    "3 for a session of the older form",
-    "4 for a resealing that outgrows the half",
-    "a part of 32,768 bytes resumed",
-    "restarts carried over",
-    "restarts set to 0",
-    "the older form resealed",
-    "updated from A.2's firmware to A.5's",
-    "updated from A.2's firmware to A.6's",
-    "updated from A.2's firmware to A.7's",
-    "updated from A.5's firmware to A.6's",
-    "updated from A.5's firmware to A.7's",
-    "updated from A.6's firmware to A.7's",
-    "updated from document 01's firmware to A.2's",
-    "updated from document 01's firmware to A.5's",
-    "updated from document 01's firmware to A.6's",
-    "updated from document 01's firmware to A.7's",
-];
-
-/// Every answer that the documents have for each call, 14 for a job buffer of a wrong length included, and those that a save
-/// gives whose starting tag is 48 bytes long, or whose session 16.
-fn every_answer() -> Vec<(Operation, u32)> {
-    let answers: [(Operation, &[u32]); 5] = [
-        (Operation::FirstSave, &[0, 1, 2, 3, 4, 5, 6, 7, 8, 14, 18]),
-        (Operation::Save, &[0, 1, 2, 3, 4, 5, 6, 7, 8, 9, 10, 14, 18]),
-        (Operation::PowerUp, &[0, 1, 2, 3, 4, 6, 7, 10, 11, 12, 13, 14]),
-        (Operation::Look, &[0, 1, 2, 3, 6, 7, 11, 12]),
-        (Operation::Advance, &[1, 2, 4, 14, 256, 257, 258]),
+/// What A.2 and A.5 to A.8 add and no answer shows by itself, in units with keys of these lengths.
+fn to_be_seen() -> BTreeSet<(usize, String)> {
+    let by_any_unit = [
+        "12 for a key of the other length",
+        "13 though the nonce is used",
+        "a part of 32,768 bytes resumed",
+        "restarts carried over",
+        "restarts set to 0",
     ];
-    answers.into_iter().flat_map(|(call, answers)| answers.iter().map(move |answer| (call, *answer))).collect()
+    // By units that older firmware wrote to, so with keys of 32 bytes.
+    let by_older_units = [
+        "13 before the resealing's 4",
+        "13 for the older form",
+        "3 for a session of the older form",
+        "4 for a resealing that outgrows the half",
+        "the older form resealed",
+    ];
+    let both = by_any_unit.into_iter().flat_map(|what| [(16, what.to_string()), (32, what.to_string())]);
+    let older = by_older_units.into_iter().map(|what| (32, what.to_string()));
+    let updates = FIRMWARES.into_iter().flat_map(|from| from.later().iter().map(move |to| (32, updated(from, *to))));
+    let refused = [16, 24].map(|key_length| (key_length, "3 by firmware that does not take the key".to_string()));
+    let refused_before = (16, "updated to firmware that takes the key".to_string());
+    both.chain(older).chain(updates).chain(refused).chain([refused_before]).collect()
+}
+
+const CALLS: [Operation; 5] =
+    [Operation::FirstSave, Operation::Save, Operation::PowerUp, Operation::Look, Operation::Advance];
+
+/// Every answer that the documents have for a call with a key of this length, 14 for a job buffer of a wrong length included,
+/// and those that a save gives whose starting tag is 48 bytes long, or whose session 16.
+fn every_answer(key_length: usize, call: Operation) -> &'static [u32] {
+    match call {
+        Operation::Advance => &[1, 2, 4, 14, 256, 257, 258],
+        _ if !KEEPER.takes_key_of(key_length) => &[1, 2, 3],
+        Operation::FirstSave => &[0, 1, 2, 3, 4, 5, 6, 7, 8, 14, 18],
+        Operation::Save => &[0, 1, 2, 3, 4, 5, 6, 7, 8, 9, 10, 14, 18],
+        Operation::PowerUp => &[0, 1, 2, 3, 4, 6, 7, 10, 11, 12, 13, 14],
+        // Its 3 is about the key alone.
+        Operation::Look => &[0, 1, 2, 6, 7, 11, 12],
+    }
 }
 
 // Making a history from a seed.
 
 fn generated(seed: u64) -> History {
     let mut random = Random::new(seed);
-    let firmware = random.pick(&[DOCUMENT_01, DOCUMENT_01, A_2, A_5, A_6, KEEPER, KEEPER, KEEPER, KEEPER]);
+    let key_length = random.pick(KEEPER.key_lengths);
+    // Older firmware does nothing with a key of 16 bytes, so that few such units begin with it.
+    let firmware = match key_length {
+        16 if random.chance(7, 8) => KEEPER,
+        _ => random.pick(&[DOCUMENT_01, DOCUMENT_01, A_2, A_5, A_6, A_7, KEEPER, KEEPER, KEEPER, KEEPER]),
+    };
     let largest = firmware.form.empty() + 2 * firmware.part_limit;
     let setup = match random.below(60) {
         // Long checkpoints and memories of the largest size are slow, so they are few.
-        0 => Setup { pages: 32, slots: 512, fram: 88 + 8 * random.below(10), firmware, seed },
-        1 | 2 => Setup { pages: 3, slots: 2, fram: 2 * largest, firmware, seed },
-        3 | 4 => Setup { pages: 3, slots: 2, fram: firmware.fram_limit, firmware, seed },
+        0 => Setup { pages: 32, slots: 512, fram: 88 + 8 * random.below(10), firmware, key_length, seed },
+        1 | 2 => Setup { pages: 3, slots: 2, fram: 2 * largest, firmware, key_length, seed },
+        3 | 4 => Setup { pages: 3, slots: 2, fram: firmware.fram_limit, firmware, key_length, seed },
         _ => Setup {
             pages: random.pick(&[3, 3, 3, 4, 4, 5, 6, 8, 32]),
             slots: random.pick(&[2, 2, 2, 3, 3, 4, 5, 8]),
             // 88 holds no checkpoint of the longer form.
             fram: 88 + 8 * random.pick(&[0, 1, 1, 2, 3, 4, 5, 6, 9, 14, 22]),
             firmware,
+            key_length,
             seed,
         },
     };
@@ -109,9 +129,14 @@ fn generated(seed: u64) -> History {
     }
     while events.len() < count {
         if events.len() >= update && running != KEEPER {
+            let took_key = running.takes_key_of(key_length);
             running = random.pick(running.later());
             events.push(Event::Update(running));
             update = events.len() + random.below(count);
+            if !took_key && running.takes_key_of(key_length) {
+                events.push(first_save(&mut random, &setup, running));
+                events.push(Event::AllBut(0));
+            }
         }
         match random.below(100) {
             0..40 => {
@@ -144,7 +169,7 @@ fn part_sizes(random: &mut Random, setup: &Setup, form: Form, limit: usize) -> (
     // Long ones are slow: in the largest memories they are few.
     let few = setup.fram >= A_2.fram_limit && random.chance(7, 8);
     let most = if few { 20 } else { room.min(limit) };
-    let open = if random.chance(1, 10) { most } else { random.below(most + 1) };
+    let open = if random.chance(1, 5) { most } else { random.below(most + 1) };
     let secret = most.min(room - open);
     // Some fill their half, where parts may be so long.
     match random.below(10) {
@@ -205,8 +230,7 @@ fn left(random: &mut Random) -> Left {
 }
 
 fn wrong(random: &mut Random, setup: &Setup) -> Event {
-    let all = [Operation::FirstSave, Operation::Save, Operation::PowerUp, Operation::Look, Operation::Advance];
-    let operation = random.pick(&all);
+    let operation = random.pick(&CALLS);
     let count = random.pick(&[1, 1, 1, 2, 2, 3, 4]);
     let twists = (0..count).map(|_| twist(random, setup, operation)).collect();
     Event::Wrong { operation, twists, fill: random.next() }
@@ -312,7 +336,7 @@ fn part_length(random: &mut Random, room: usize) -> Twist {
 fn any_twist(random: &mut Random, setup: &Setup, ring: usize, half: usize, room: usize, seed: u64) -> Twist {
     let Setup { pages, slots, fram, .. } = *setup;
     let [older, newer] = [A_2.part_limit, KEEPER.part_limit];
-    match random.below(19) {
+    match random.below(20) {
         0 => Twist::Pages(random.pick(&[0, 1, 2, 3, 32, 33, pages - 1, pages + 1, usize::MAX, 1 << 60])),
         1 => Twist::Slots(random.pick(&[0, 1, 2, 512, 513, slots - 1, slots + 1, usize::MAX, 1 << 60])),
         2 => Twist::PagesForSlots,
@@ -334,8 +358,8 @@ fn any_twist(random: &mut Random, setup: &Setup, ring: usize, half: usize, room:
             KEEPER.fram_limit,
             KEEPER.fram_limit + 8,
         ])),
-        5 => Twist::KeyLength(random.pick(&[0, 16, 24, 31, 33, 64])),
-        6 => Twist::KeyBit(random.below(256)),
+        5 => Twist::KeyLength(random.pick(&[0, 15, 16, 17, 24, 31, 32, 33, 64])),
+        6 => Twist::KeyBit(random.below(8 * setup.key_length)),
         7 => Twist::NonceLength(random.pick(&[0, 8, 11, 13, 16])),
         8 => Twist::StartingTagLength(random.pick(&[0, 12, 15, 17, 32, 48])),
         9 | 10 => part_length(random, room),
@@ -349,6 +373,7 @@ fn any_twist(random: &mut Random, setup: &Setup, ring: usize, half: usize, room:
             random.pick(&[0, 1, 2, 0x40, 0x80, 0xFF]),
         ),
         17 => Twist::Packet(packet(random)),
+        18 => Twist::KeyRepeated(random.pick(&[8, 16, 16, 24, 32, 32, 48])),
         _ => Twist::RingPage(random.below(pages), random.pick(&[Left::Whole, Left::Any(seed), Left::Records(seed)])),
     }
 }
@@ -458,6 +483,9 @@ fn simpler_setups(setup: &Setup) -> Vec<Setup> {
     }
     if setup.fram > 88 {
         less.extend([Setup { fram: 88, ..setup.clone() }, Setup { fram: setup.fram - 8, ..setup.clone() }]);
+    }
+    if setup.key_length != 32 {
+        less.push(Setup { key_length: 32, ..setup.clone() });
     }
     less.extend(setup.firmware.later().iter().map(|firmware| Setup { firmware: *firmware, ..setup.clone() }));
     less

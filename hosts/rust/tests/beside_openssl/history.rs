@@ -1,7 +1,7 @@
 //! Histories: what happens to a unit, event by event, and calls with something wrong among them.
 
-use crate::compare::{call, saw};
-use crate::firmware::{Firmware, A_2, A_5, A_6, DOCUMENT_01, KEEPER};
+use crate::compare::call;
+use crate::firmware::{Firmware, KEEPER};
 use crate::layout::{half_of, read_ring, record, word, Checkpoint, Form, Newest, Reading};
 use crate::operations::*;
 use crate::random::Random;
@@ -59,6 +59,8 @@ pub enum Twist {
     RingLength(usize),
     FramLength(usize),
     KeyLength(usize),
+    /// The unit's key cut to this length, or repeated up to it.
+    KeyRepeated(usize),
     KeyBit(usize),
     NonceLength(usize),
     UsedNonce(usize),
@@ -137,26 +139,26 @@ impl Event {
             Event::CutInto(left) => unit.cut_into(left)?,
             Event::Update(firmware) => {
                 if unit.firmware.later().contains(&firmware) {
-                    saw(match (unit.firmware, firmware) {
-                        (DOCUMENT_01, A_2) => "updated from document 01's firmware to A.2's",
-                        (DOCUMENT_01, A_5) => "updated from document 01's firmware to A.5's",
-                        (DOCUMENT_01, A_6) => "updated from document 01's firmware to A.6's",
-                        (DOCUMENT_01, _) => "updated from document 01's firmware to A.7's",
-                        (A_2, A_5) => "updated from A.2's firmware to A.5's",
-                        (A_2, A_6) => "updated from A.2's firmware to A.6's",
-                        (A_2, _) => "updated from A.2's firmware to A.7's",
-                        (A_5, A_6) => "updated from A.5's firmware to A.6's",
-                        (A_5, _) => "updated from A.5's firmware to A.7's",
-                        _ => "updated from A.6's firmware to A.7's",
-                    });
+                    let (older, took_key) = (unit.firmware, unit.takes_key());
                     unit.update(firmware);
+                    match (took_key, unit.takes_key()) {
+                        (true, _) => unit.saw(updated(older, firmware)),
+                        (false, true) => unit.saw("updated to firmware that takes the key"),
+                        (false, false) => (),
+                    }
                 }
             }
             // The unit is as it was, so there is nothing to try.
             Event::Wrong { operation, twists, fill } => return wrong(unit, operation, &twists, fill),
         }
+        unit.trial_of_other_keys()?;
         unit.trial()
     }
+}
+
+/// What is seen of an update between firmwares that both take the unit's key.
+pub fn updated(older: Firmware, newer: Firmware) -> String {
+    format!("updated from {} firmware to {}", older.name, newer.name)
 }
 
 /// A trial after each advance; in a long checkpoint or a large FRAM after each run of them, and after each of the last.
@@ -222,6 +224,7 @@ impl Twist {
             Twist::RingLength(n) => c.ring.resize(n, 0xFF),
             Twist::FramLength(n) => c.fram.resize(n, 0xA5),
             Twist::KeyLength(n) => c.key.resize(n, 0xA5),
+            Twist::KeyRepeated(n) => c.key = unit.lent.key.iter().copied().cycle().take(n).collect(),
             Twist::KeyBit(bit) => turn(&mut c.key, bit),
             Twist::NonceLength(n) => c.nonce.resize(n, 0xA5),
             Twist::UsedNonce(back) => c.nonce = unit.used_nonce(back),
@@ -362,8 +365,9 @@ fn made_up_job(c: &Lent, seed: u64) -> Job {
 
 impl fmt::Display for History {
     fn fmt(&self, f: &mut fmt::Formatter<'_>) -> fmt::Result {
-        let Setup { pages, slots, fram, firmware, seed } = self.setup;
+        let Setup { pages, slots, fram, firmware, key_length, seed } = self.setup;
         writeln!(f, "a ring of {pages} pages of {slots} slots, a FRAM of {fram} bytes, bytes by seed {seed}")?;
+        writeln!(f, "the key has {key_length} bytes")?;
         writeln!(f, "the firmware is {} at first", firmware.name)?;
         for (i, event) in self.events.iter().enumerate() {
             writeln!(f, "{:4}  {event}", i + 1)?;

@@ -15,7 +15,19 @@ const OLDER: [Firmware; 2] = [DOCUMENT_01, A_2];
 
 const EACH: [Firmware; 3] = [DOCUMENT_01, A_2, KEEPER];
 
-const KEY: [u8; 32] = [0x5B; 32];
+for_each_key_length!(
+    largest_memories,
+    largest_parts,
+    least_state_buffer,
+    stored_parts_at_the_limit,
+    older_firmware_refuses_what_the_keeper_saved,
+    no_length_is_read_short,
+    larger_parts_behind_the_older_head,
+);
+
+fn key_of(length: usize) -> Vec<u8> {
+    vec![0x5B; length]
+}
 
 /// Lengths above 4,096 whose words, 1,025, 2,048, 4,097 and 8,192, have few of their lowest 10 to 13 bits set or none, so that
 /// they would be read short if the higher ones were dropped.
@@ -58,9 +70,15 @@ fn read_by_each(lent: &Lent) -> [(u32, u32); 3] {
     })
 }
 
+/// What they are to answer: the older ones this to both calls, or 3 where they do not take the key.
+fn answers(key_length: usize, older: u32, keeper: (u32, u32)) -> [(u32, u32); 3] {
+    let [first, second] = OLDER.map(|firmware| firmware.or_3(key_length, older));
+    [(first, first), (second, second), keeper]
+}
+
 /// A unit whose newest record, with a nonce of 0x77, names a half that begins with these bytes.
-fn holding(fram: usize, half: usize, bytes: &[u8]) -> Lent {
-    let mut lent = Lent { key: KEY.to_vec(), ..lent(3, 2, fram) };
+fn holding(key_length: usize, fram: usize, half: usize, bytes: &[u8]) -> Lent {
+    let mut lent = Lent { key: key_of(key_length), ..lent(key_length, 3, 2, fram) };
     lent.ring[..16].copy_from_slice(&record(&[0x77; 12], half));
     lent.fram[half * fram / 2..][..bytes.len()].copy_from_slice(bytes);
     lent
@@ -75,10 +93,9 @@ fn checkpoint(form: Form, open: usize, secret: usize) -> Checkpoint {
 }
 
 /// "document 01's limit cases move with them: FRAM 262,152 gives 2".
-#[test]
-fn largest_memories() {
+fn largest_memories(key_length: usize) {
     for (fram, wrong) in [(131_080, false), (262_136, false), (262_144, false), (262_148, true), (262_152, true)] {
-        let mut unit = lent(3, 2, fram);
+        let mut unit = lent(key_length, 3, 2, fram);
         let expected = |answer: u32| if wrong { 2 } else { answer };
         assert_eq!(tried(Operation::Save, &unit, |_| ()), expected(6), "FRAM {fram}");
         assert_eq!(tried(Operation::PowerUp, &unit, |_| ()), expected(6), "FRAM {fram}");
@@ -89,9 +106,8 @@ fn largest_memories() {
 }
 
 /// "a part of 32,768 passes, 32,772 gives 4".
-#[test]
-fn largest_parts() {
-    let blank = lent(3, 2, 262_144);
+fn largest_parts(key_length: usize) {
+    let blank = lent(key_length, 3, 2, 262_144);
     let mut saved = blank.clone();
     made(Operation::FirstSave, &mut saved, 1);
     saved.nonce[11] += 1;
@@ -106,14 +122,16 @@ fn largest_parts() {
     }
     // Both of 32,768 bytes fill a half of 65,584.
     for (fram, expected) in [(131_160, 4), (131_168, DONE)] {
-        assert_eq!(tried(Operation::FirstSave, &lent(3, 2, fram), |c| with_parts(c, 32_768, 32_768)), expected);
+        assert_eq!(
+            tried(Operation::FirstSave, &lent(key_length, 3, 2, fram), |c| with_parts(c, 32_768, 32_768)),
+            expected
+        );
     }
 }
 
 /// "The power-up's state buffer must be at least 32,768." The parts stored do not matter.
-#[test]
-fn least_state_buffer() {
-    let mut unit = lent(3, 2, 128);
+fn least_state_buffer(key_length: usize) {
+    let mut unit = lent(key_length, 3, 2, 128);
     made(Operation::FirstSave, &mut unit, 1);
     unit.nonce[11] += 1;
     for (n, expected) in [(0, 4), (4096, 4), (32_764, 4), (32_767, 4), (32_768, DONE), (32_769, DONE)] {
@@ -122,8 +140,7 @@ fn least_state_buffer() {
 }
 
 /// Of rightly sealed checkpoints, a part of 8,192 words is read and one of 8,193 gives 11.
-#[test]
-fn stored_parts_at_the_limit() {
+fn stored_parts_at_the_limit(key_length: usize) {
     for form in [Form::Older, Form::Longer] {
         for (open, secret, expected) in [
             (8192, 0, DONE),
@@ -137,8 +154,8 @@ fn stored_parts_at_the_limit() {
             (1, 16_385, 11),
         ] {
             for half in [0, 1] {
-                let stored = checkpoint(form, 4 * open, 4 * secret).sealed(&KEY);
-                let [_, _, keeper] = read_by_each(&holding(262_144, half, &stored));
+                let stored = checkpoint(form, 4 * open, 4 * secret).sealed(&key_of(key_length));
+                let [_, _, keeper] = read_by_each(&holding(key_length, 262_144, half, &stored));
                 assert_eq!(keeper, (expected, expected), "{form:?}, {open} and {secret} words, half {half}");
             }
         }
@@ -146,26 +163,29 @@ fn stored_parts_at_the_limit() {
 }
 
 /// Images of the keeper's own making, in a FRAM that they just fill and in the largest of the older firmwares.
-#[test]
-fn older_firmware_refuses_what_the_keeper_saved() {
+fn older_firmware_refuses_what_the_keeper_saved(key_length: usize) {
     for (open, secret) in larger_parts() {
         for fram in [2 * (48 + open + secret), A_2.fram_limit] {
-            let mut unit = lent(3, 2, fram);
+            let mut unit = lent(key_length, 3, 2, fram);
             // In half A, in half B, and restarted.
             for operation in [Operation::FirstSave, Operation::Save, Operation::PowerUp] {
                 with_parts(&mut unit, open, secret);
                 made(operation, &mut unit, 1);
                 let read = read_by_each(&unit);
-                assert_eq!(read, [(11, 11), (11, 11), (DONE, DONE)], "{operation:?}, {open} and {secret}, FRAM {fram}");
+                assert_eq!(
+                    read,
+                    answers(key_length, 11, (DONE, DONE)),
+                    "{operation:?}, {open} and {secret}, FRAM {fram}"
+                );
             }
         }
     }
 }
 
-/// "where its checks before 11 pass".
+/// "where its checks before 11 pass". It takes keys of 32 bytes only.
 #[test]
 fn older_checks_before_11() {
-    let mut unit = lent(3, 2, 131_072);
+    let mut unit = lent(32, 3, 2, 131_072);
     with_parts(&mut unit, 4100, 4);
     made(Operation::FirstSave, &mut unit, 1);
     let nonce = unit.nonce.clone();
@@ -179,6 +199,7 @@ fn older_checks_before_11() {
         assert_eq!(tried(&|_| ()), 11);
         assert_eq!(tried(&|c| c.pages = 4), 1);
         assert_eq!(tried(&|c| c.fram.resize(131_080, 0)), 2);
+        assert_eq!(tried(&|c| c.key.truncate(16)), 3);
         assert_eq!(tried(&|c| c.key.truncate(31)), 3);
         assert_eq!(tried(&|c| c.state = Rc::new(vec![0; 4095])), 4);
         assert_eq!(tried(&|c| c.state = Rc::new(vec![0; 4096])), 11);
@@ -190,11 +211,12 @@ fn older_checks_before_11() {
     }
 }
 
-/// "Stored checkpoints keep their form": parts up to 4,096 bytes are stored as A.2's firmware stores them, and it reads them.
+/// "Stored checkpoints keep their form": parts up to 4,096 bytes are stored as A.2's firmware stores them, and it reads them,
+/// with keys of 32 bytes.
 #[test]
 fn parts_to_4096_as_before() {
     for (open, secret) in [(0, 0), (4, 0), (4096, 0), (0, 4096), (4092, 4096), (4096, 4096)] {
-        let mut unit = lent(3, 2, 2 * (48 + open + secret));
+        let mut unit = lent(32, 3, 2, 2 * (48 + open + secret));
         let mut older = unit.clone();
         older.state = Rc::new(vec![0x44; A_2.part_limit]);
         for operation in [Operation::FirstSave, Operation::Save, Operation::PowerUp] {
@@ -216,8 +238,7 @@ fn parts_to_4096_as_before() {
 
 /// A head whose words say more than the firmware's limit, sealed over as many words as their low bits say: whoever drops the
 /// higher bits finds the tag right.
-#[test]
-fn no_length_is_read_short() {
+fn no_length_is_read_short(key_length: usize) {
     for (words, bits) in
         [(0x401, 10), (0x402, 10), (0x800, 11), (0x1001, 12), (0x2000, 13), (0x2001, 13), (0x4001, 14), (0x1_0001, 16)]
     {
@@ -228,13 +249,17 @@ fn no_length_is_read_short() {
                 bytes.extend([word(1, open), word(2, secret), word(3, 0)].concat());
                 bytes.extend([0x66; 16]);
                 bytes.extend(vec![0xA1; short(open)]);
-                let (text, tag) = openssl::seal(&KEY, &[0x77; 12], &bytes, &vec![0xA2; short(secret)]);
+                let (text, tag) = openssl::seal(&key_of(key_length), &[0x77; 12], &bytes, &vec![0xA2; short(secret)]);
                 bytes.extend(text);
                 bytes.extend(tag);
                 // Of the lengths up to the keeper's limit all but the last pair fit the half, which has another tag there.
                 let keeper = if words < 0x2000 || words == 0x2000 && open != secret { 12 } else { 11 };
-                let read = read_by_each(&holding(131_072, 1, &bytes));
-                assert_eq!(read, [(11, 11), (11, 11), (keeper, keeper)], "{form:?}, {open:#x} and {secret:#x} words");
+                let read = read_by_each(&holding(key_length, 131_072, 1, &bytes));
+                assert_eq!(
+                    read,
+                    answers(key_length, 11, (keeper, keeper)),
+                    "{form:?}, {open:#x} and {secret:#x} words"
+                );
             }
         }
     }
@@ -242,17 +267,16 @@ fn no_length_is_read_short() {
 
 /// A checkpoint of the older head with a larger part, which no older firmware wrote: both older ones refuse it, and the keeper
 /// resumes it in the longer form.
-#[test]
-fn larger_parts_behind_the_older_head() {
+fn larger_parts_behind_the_older_head(key_length: usize) {
     for (open, secret) in larger_parts() {
         for half in [0, 1] {
             let older = checkpoint(Form::Older, open, secret);
-            let sealed = older.sealed(&KEY);
-            let full = holding(2 * sealed.len(), half, &sealed);
-            assert_eq!(read_by_each(&full), [(11, 11), (11, 11), (4, DONE)], "{open} and {secret}, half {half}");
+            let sealed = older.sealed(&key_of(key_length));
+            let full = holding(key_length, 2 * sealed.len(), half, &sealed);
+            assert_eq!(read_by_each(&full), answers(key_length, 11, (4, DONE)), "{open} and {secret}, half {half}");
 
-            let mut unit = holding(A_2.fram_limit, half, &sealed);
-            assert_eq!(read_by_each(&unit), [(11, 11), (11, 11), (DONE, DONE)], "{open} and {secret}, half {half}");
+            let mut unit = holding(key_length, A_2.fram_limit, half, &sealed);
+            assert_eq!(read_by_each(&unit), answers(key_length, 11, (DONE, DONE)), "{open} and {secret}, half {half}");
             assert_eq!(answer(Operation::Look, &mut unit), DONE);
             assert_eq!((unit.restarts, unit.open_start), (3, half * 65_536 + 28));
             assert!(unit.fram[unit.open_start..][..unit.open_len] == older.open_part);
@@ -265,7 +289,7 @@ fn larger_parts_behind_the_older_head() {
                 nonce: unit.nonce[..].try_into().unwrap(),
                 ..older
             };
-            let resealed = newer.sealed(&KEY);
+            let resealed = newer.sealed(&key_of(key_length));
             assert!(half_of(&unit.fram, 1 - half)[..resealed.len()] == resealed);
         }
     }

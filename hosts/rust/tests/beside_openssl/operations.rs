@@ -1,5 +1,5 @@
-//! Document 01, "What the unit calls" and "Stops, by the place of checking", with document 02's A.2, A.5, A.6 and A.7: what
-//! each call of a firmware answers and leaves. Jobs and sessions are the bytes that the calls for C lay down.
+//! Document 01, "What the unit calls" and "Stops, by the place of checking", with document 02's A.2 and A.5 to A.8: what each
+//! call of a firmware answers and leaves. Jobs and sessions are the bytes that the calls for C lay down.
 
 use crate::firmware::Firmware;
 use crate::layout::*;
@@ -83,7 +83,7 @@ fn one_save(firmware: Firmware, from: &[u8], c: &mut Lent) -> Answer {
 fn first_save(firmware: Firmware, starting_tag: &[u8], c: &mut Lent) -> Answer {
     stop_if(ring_size_wrong(c.pages, c.slots, &c.ring), 1)?;
     stop_if(fram_size_wrong(firmware, &c.fram), 2)?;
-    stop_if(c.key.len() != 32 || c.nonce.len() != 12 || starting_tag.len() != 16, 3)?;
+    stop_if(key_wrong(firmware, c) || c.nonce.len() != 12 || starting_tag.len() != 16, 3)?;
     stop_if(parts_wrong(firmware, c) || staging_short(c), 4)?;
     stop_if(packet_wrong(firmware, c), 18)?;
     stop_if(!blank(&c.ring), 5)?;
@@ -107,7 +107,7 @@ fn first_save(firmware: Firmware, starting_tag: &[u8], c: &mut Lent) -> Answer {
 fn save(firmware: Firmware, session: &[u8], c: &mut Lent) -> Answer {
     stop_if(ring_size_wrong(c.pages, c.slots, &c.ring), 1)?;
     stop_if(fram_size_wrong(firmware, &c.fram), 2)?;
-    stop_if(c.key.len() != 32 || c.nonce.len() != 12, 3)?;
+    stop_if(key_wrong(firmware, c) || c.nonce.len() != 12, 3)?;
     stop_if(parts_wrong(firmware, c) || staging_short(c), 4)?;
     stop_if(packet_wrong(firmware, c), 18)?;
     let newest = newest_record(c)?;
@@ -141,7 +141,7 @@ fn save(firmware: Firmware, session: &[u8], c: &mut Lent) -> Answer {
 fn power_up(firmware: Firmware, c: &mut Lent) -> Answer {
     stop_if(ring_size_wrong(c.pages, c.slots, &c.ring), 1)?;
     stop_if(fram_size_wrong(firmware, &c.fram), 2)?;
-    stop_if(c.key.len() != 32 || c.nonce.len() != 12, 3)?;
+    stop_if(key_wrong(firmware, c) || c.nonce.len() != 12, 3)?;
     stop_if(staging_short(c) || c.state.len() < firmware.part_limit, 4)?;
     let newest = newest_record(c)?;
     let used = newest.nonces.iter().any(|used| used[..] == c.nonce);
@@ -170,7 +170,7 @@ fn power_up(firmware: Firmware, c: &mut Lent) -> Answer {
 fn look(firmware: Firmware, c: &mut Lent) -> Answer {
     stop_if(ring_size_wrong(c.pages, c.slots, &c.ring), 1)?;
     stop_if(fram_size_wrong(firmware, &c.fram), 2)?;
-    stop_if(c.key.len() != 32, 3)?;
+    stop_if(key_wrong(firmware, c), 3)?;
     let newest = newest_record(c)?;
     let (opened, _) = open_half(firmware, half_of(&c.fram, newest.half), &c.key, &newest.record[..12])?;
     c.restarts = opened.restarts;
@@ -231,6 +231,11 @@ fn advance(firmware: Firmware, c: &mut Lent) -> Answer {
 }
 
 // Stops.
+
+/// Of 3: "key not 32 … bytes"; A.8: "3's key condition is now neither 16 nor 32 bytes".
+fn key_wrong(firmware: Firmware, c: &Lent) -> bool {
+    !firmware.takes_key_of(c.key.len())
+}
 
 /// Of 4: "a part not a multiple of 4 bytes, above" the firmware's limit, "or the checkpoint longer than a half".
 fn parts_wrong(firmware: Firmware, c: &Lent) -> bool {

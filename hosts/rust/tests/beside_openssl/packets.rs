@@ -4,8 +4,8 @@ use crate::by_hand::*;
 use crate::layout::{half_of, number, word, LARGEST_PACKET};
 use crate::operations::*;
 
-fn with_first_save(packet: u32) -> Lent {
-    let mut lent = lent(3, 2, 128);
+fn with_first_save(key_length: usize, packet: u32) -> Lent {
+    let mut lent = lent(key_length, 3, 2, 128);
     made(Operation::FirstSave, &mut lent, packet);
     lent
 }
@@ -15,10 +15,21 @@ fn held(lent: &Lent) -> (u32, u32) {
     (number(&lent.session[40..44]), number(&lent.session[44..48]))
 }
 
+for_each_key_length!(
+    a_unit_that_hears_only_repeats_stops,
+    numbers_beside_the_sessions,
+    where_restarts_and_number_stand,
+    every_byte_of_the_head_is_sealed,
+    stop_18_stands_after_4,
+    a_session_out_of_range,
+    restarts_of_8_carry_over,
+    jobs_from_48_bytes_on,
+    the_smallest_memories,
+);
+
 /// "A unit that saved after each repeated packet set its restarts to 0 and never stopped."
-#[test]
-fn a_unit_that_hears_only_repeats_stops() {
-    let mut unit = with_first_save(700);
+fn a_unit_that_hears_only_repeats_stops(key_length: usize) {
+    let mut unit = with_first_save(key_length, 700);
     for restarts in 1..=8 {
         made(Operation::PowerUp, &mut unit, 0);
         assert_eq!(held(&unit), (restarts, 700));
@@ -38,9 +49,8 @@ fn a_unit_that_hears_only_repeats_stops() {
 }
 
 /// "Above the session's number it sets restarts to 0; otherwise restarts carry over, and the larger number is stored."
-#[test]
-fn numbers_beside_the_sessions() {
-    let mut unit = with_first_save(500);
+fn numbers_beside_the_sessions(key_length: usize) {
+    let mut unit = with_first_save(key_length, 500);
     assert_eq!(held(&unit), (0, 500));
     made(Operation::PowerUp, &mut unit, 0);
     for (packet, expected) in [
@@ -64,9 +74,8 @@ fn numbers_beside_the_sessions() {
 }
 
 /// A job's and a session's last words, and the head of the checkpoint between them.
-#[test]
-fn where_restarts_and_number_stand() {
-    let mut unit = lent(3, 2, 128);
+fn where_restarts_and_number_stand(key_length: usize) {
+    let mut unit = lent(key_length, 3, 2, 128);
     assert_eq!(started(Operation::FirstSave, &mut unit, 0x0102_0304), DONE);
     assert_eq!(unit.job.len(), 64);
     assert_eq!(unit.job[56..], [0, 0, 0, 0, 1, 2, 3, 4]);
@@ -86,9 +95,8 @@ fn where_restarts_and_number_stand() {
 }
 
 /// "all 32 head bytes are associated data": a change of any of them is seen.
-#[test]
-fn every_byte_of_the_head_is_sealed() {
-    let unit = with_first_save(6);
+fn every_byte_of_the_head_is_sealed(key_length: usize) {
+    let unit = with_first_save(key_length, 6);
     for at in 0..32 {
         for bit in 0..8 {
             let found = tried(Operation::PowerUp, &unit, |c| {
@@ -104,11 +112,10 @@ fn every_byte_of_the_head_is_sealed() {
 }
 
 /// "(18 packet number too large, after 4": first save 1 to 4, 18, 5; save 1 to 4, 18, 6 to 10.
-#[test]
-fn stop_18_stands_after_4() {
+fn stop_18_stands_after_4(key_length: usize) {
     let large = |c: &mut Lent| c.packet = LARGEST_PACKET + 1;
-    let blank = lent(3, 2, 128);
-    let unit = with_first_save(3);
+    let blank = lent(key_length, 3, 2, 128);
+    let unit = with_first_save(key_length, 3);
     let mut saving = unit.clone();
     saving.nonce[11] += 1;
     for (operation, unit) in [(Operation::FirstSave, &blank), (Operation::Save, &saving)] {
@@ -118,7 +125,7 @@ fn stop_18_stands_after_4() {
         assert_eq!(tried(operation, unit, |c| c.packet = u32::MAX), 18);
         assert_eq!(tried(operation, unit, |c| (large(c), c.pages = 4).0), 1);
         assert_eq!(tried(operation, unit, |c| (large(c), c.fram.truncate(84)).0), 2);
-        assert_eq!(tried(operation, unit, |c| (large(c), c.key.truncate(31)).0), 3);
+        assert_eq!(tried(operation, unit, |c| (large(c), c.key.resize(24, 0)).0), 3);
         assert_eq!(tried(operation, unit, |c| (large(c), c.secret.truncate(3)).0), 4);
         assert_eq!(tried(operation, unit, |c| (large(c), c.open_part.resize(16, 0)).0), 4);
         assert_eq!(tried(operation, unit, |c| (large(c), c.staging.truncate(63)).0), 4);
@@ -142,9 +149,8 @@ fn stop_18_stands_after_4() {
 }
 
 /// "8 also where the session's restarts or packet number are out of range".
-#[test]
-fn a_session_out_of_range() {
-    let mut unit = with_first_save(3);
+fn a_session_out_of_range(key_length: usize) {
+    let mut unit = with_first_save(key_length, 3);
     unit.nonce[11] += 1;
     let held = |c: &mut Lent, restarts: u32, packet: u32| {
         c.session[40..44].copy_from_slice(&restarts.to_be_bytes());
@@ -164,9 +170,8 @@ fn a_session_out_of_range() {
 }
 
 /// A save with a session of 8 restarts and no newer packet stores the 8: the next power-up gives 13.
-#[test]
-fn restarts_of_8_carry_over() {
-    let mut unit = with_first_save(3);
+fn restarts_of_8_carry_over(key_length: usize) {
+    let mut unit = with_first_save(key_length, 3);
     for _ in 0..8 {
         made(Operation::PowerUp, &mut unit, 0);
     }
@@ -181,9 +186,8 @@ fn restarts_of_8_carry_over() {
 }
 
 /// "14 takes 48 for 44", and no stop of an advance looks at a job's restarts and number: the session gets them.
-#[test]
-fn jobs_from_48_bytes_on() {
-    let mut unit = lent(3, 2, 128);
+fn jobs_from_48_bytes_on(key_length: usize) {
+    let mut unit = lent(key_length, 3, 2, 128);
     unit.open_part.clear();
     unit.secret.clear();
     assert_eq!(started(Operation::FirstSave, &mut unit, 9), DONE);
@@ -205,16 +209,15 @@ fn jobs_from_48_bytes_on() {
 }
 
 /// "FRAM 88 holds no new checkpoint."
-#[test]
-fn the_smallest_memories() {
-    let mut unit = lent(3, 2, 88);
+fn the_smallest_memories(key_length: usize) {
+    let mut unit = lent(key_length, 3, 2, 88);
     unit.open_part.clear();
     unit.secret.clear();
     assert_eq!(started(Operation::FirstSave, &mut unit, 0), 4);
     for (fram, open, secret, expected) in
         [(96, 0, 0, DONE), (96, 4, 0, 4), (96, 0, 4, 4), (104, 4, 0, DONE), (104, 4, 4, 4)]
     {
-        let mut unit = lent(3, 2, fram);
+        let mut unit = lent(key_length, 3, 2, fram);
         unit.open_part.resize(open, 1);
         unit.secret.resize(secret, 2);
         assert_eq!(started(Operation::FirstSave, &mut unit, 0), expected, "FRAM {fram}, parts {open} and {secret}");

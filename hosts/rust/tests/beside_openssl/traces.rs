@@ -1,6 +1,7 @@
 //! Document 02, A.4: the lines of the program `bench_trace`, beside those that the documents' operations give; these are
-//! held against the book here, memories included. The program's own memories do not show in its lines. The variable
-//! `KEEPER_PROGRAMS` names its folder; without it it is in the repository's `target/bin`.
+//! held against the book here, memories included. The key is of 32 zero bytes, or of 16 if the program's argument says so.
+//! The program's own memories do not show in its lines, nor does its key. The variable `KEEPER_PROGRAMS` names its folder;
+//! without it it is in the repository's `target/bin`.
 
 use crate::book::{Book, Cut};
 use crate::firmware::KEEPER;
@@ -39,18 +40,36 @@ fn bytes(words: &[u32]) -> Vec<u8> {
     words.iter().flat_map(|word| word.to_be_bytes()).collect()
 }
 
-/// What the program prints.
-fn printed(trace: &[u8]) -> String {
+/// What the program, with these arguments, writes to standard output and to standard error.
+fn run(arguments: &[&str], trace: &[u8]) -> (String, String) {
     let folder = env::var_os("KEEPER_PROGRAMS").map(PathBuf::from);
     let folder = folder.unwrap_or_else(|| Path::new(env!("CARGO_MANIFEST_DIR")).join("../../target/bin"));
     let program = folder.join("bench_trace");
-    let started = Command::new(&program).stdin(Stdio::piped()).stdout(Stdio::piped()).stderr(Stdio::piped()).spawn();
-    let mut started = started.unwrap_or_else(|why| panic!("{}: {why}", program.display()));
+    let mut command = Command::new(&program);
+    command.args(arguments).stdin(Stdio::piped()).stdout(Stdio::piped()).stderr(Stdio::piped());
+    let mut started = command.spawn().unwrap_or_else(|why| panic!("{}: {why}", program.display()));
     // The program may stop reading before the end of a trace that is too long.
     let _ = started.stdin.take().unwrap().write_all(trace);
     let ran = started.wait_with_output().unwrap();
-    assert!(ran.status.success() && ran.stderr.is_empty(), "{:?}", ran);
-    String::from_utf8(ran.stdout).unwrap()
+    assert!(ran.status.success(), "{:?}", ran);
+    (String::from_utf8(ran.stdout).unwrap(), String::from_utf8(ran.stderr).unwrap())
+}
+
+/// The arguments that ask for a key of this length: it is 32 where there are none.
+fn arguments(key_length: usize) -> &'static [&'static [&'static str]] {
+    match key_length {
+        32 => &[&[], &["32"]],
+        _ => &[&["16"]],
+    }
+}
+
+/// What the program prints with a key of this length, however it is asked for.
+fn printed(key_length: usize, trace: &[u8]) -> String {
+    let texts: BTreeSet<(String, String)> = arguments(key_length).iter().map(|words| run(words, trace)).collect();
+    match Vec::from_iter(texts).as_slice() {
+        [(text, complaint)] if complaint.is_empty() => text.clone(),
+        other => panic!("for the trace {trace:02x?}: {other:?}"),
+    }
 }
 
 // What the documents say that it prints.
@@ -65,13 +84,14 @@ struct Unit {
 
 impl Unit {
     /// "Open part empty, key and starting tag zero, ring 3 by 2, FRAM 128 bytes, both blank at first, FRAM all 0xFF."
-    fn new() -> Unit {
+    fn new(key_length: usize) -> Unit {
+        let key = vec![0; key_length];
         let lent = Lent {
             pages: 3,
             slots: 2,
             ring: vec![0xFF; 96],
             fram: vec![0xFF; 128],
-            key: vec![0; 32],
+            key: key.clone(),
             nonce: vec![0; 12],
             starting_tag: vec![0; 16],
             session: vec![0; session_length(KEEPER.form)],
@@ -86,7 +106,7 @@ impl Unit {
             open_start: 0,
             open_len: 0,
         };
-        Unit { lent, book: Book::new(&[0; 32], 2), session: None, answers: BTreeSet::new() }
+        Unit { lent, book: Book::new(&key, 2), session: None, answers: BTreeSet::new() }
     }
 
     /// The start's answer. "At the start and after a cut there is no session; a save then prints `refused 6` on a blank
@@ -190,11 +210,11 @@ fn wrong(trace: &[u8]) -> bool {
 }
 
 /// What is to be printed, and which answers each kind of start gave.
-fn expected(trace: &[u8]) -> (String, BTreeSet<(u32, u32)>) {
+fn expected(key_length: usize, trace: &[u8]) -> (String, BTreeSet<(u32, u32)>) {
     if wrong(trace) {
         return ("refused 20\n".into(), BTreeSet::new());
     }
-    let mut unit = Unit::new();
+    let mut unit = Unit::new(key_length);
     let mut text = String::new();
     let mut cut = None;
     for word in trace.chunks(4) {
@@ -210,11 +230,13 @@ fn expected(trace: &[u8]) -> (String, BTreeSet<(u32, u32)>) {
 }
 
 /// The program prints what the documents say.
-fn compare(trace: &[u8]) -> BTreeSet<(u32, u32)> {
-    let (text, answers) = expected(trace);
-    assert_eq!(printed(trace), text, "for the trace {trace:02x?}");
+fn compare(key_length: usize, trace: &[u8]) -> BTreeSet<(u32, u32)> {
+    let (text, answers) = expected(key_length, trace);
+    assert_eq!(printed(key_length, trace), text, "for the trace {trace:02x?}");
     answers
 }
+
+for_each_key_length!(written_by_hand, repeated_nonces, wrong_traces, random_traces, longest_traces);
 
 // The lines of the records in turn, where no page is pending: they go round the slots, and to A and B in turn.
 const R1: &str = "page 0 slot 0 half A pending none";
@@ -226,8 +248,7 @@ const R6: &str = "page 2 slot 1 half B pending none";
 
 /// Traces with their lines written by hand. A checkpoint has 52 bytes, so 13 words and a record: 14 stores, 15 with an
 /// erase.
-#[test]
-fn written_by_hand() {
+fn written_by_hand(key_length: usize) {
     let restarts: Vec<u32> = (2..10).map(power_up).collect();
     let eight: [&str; 9] = [R1, R2, R3, R4, R5, R6, R1, R2, R3];
     let traces: [(Vec<u32>, Vec<&str>); 9] = [
@@ -296,26 +317,24 @@ fn written_by_hand() {
     ];
     for (words, lines) in traces {
         let text: String = lines.iter().map(|line| format!("{line}\n")).collect();
-        assert_eq!(printed(&bytes(&words)), text, "for the trace {words:08x?}");
-        assert_eq!(expected(&bytes(&words)).0, text, "for the trace {words:08x?}");
+        assert_eq!(printed(key_length, &bytes(&words)), text, "for the trace {words:08x?}");
+        assert_eq!(expected(key_length, &bytes(&words)).0, text, "for the trace {words:08x?}");
     }
 }
 
 /// A nonce is refused while a record of the newest page has it, and may come again later. The cut rule does not speak of
 /// such traces.
-#[test]
-fn repeated_nonces() {
+fn repeated_nonces(key_length: usize) {
     let words =
         [first_save(1), save(1), save(2), save(1), power_up(2), save(3), save(1), save(3), power_up(1), power_up(2)];
     let lines = [R1, "refused 10", R2, "refused 10", "refused 10", R3, R4, "refused 10", "refused 10", R5];
     let text: String = lines.iter().map(|line| format!("{line}\n")).collect();
-    assert_eq!(printed(&bytes(&words)), text);
-    assert_eq!(expected(&bytes(&words)).0, text);
+    assert_eq!(printed(key_length, &bytes(&words)), text);
+    assert_eq!(expected(key_length, &bytes(&words)).0, text);
 }
 
 /// Stop 20, before any line.
-#[test]
-fn wrong_traces() {
+fn wrong_traces(key_length: usize) {
     let good = [first_save(1), cut(3), save(2), power_up(3)];
     let with = |at: usize, word: u32| {
         let mut words = good.to_vec();
@@ -324,29 +343,29 @@ fn wrong_traces() {
     };
     for at in 0..=good.len() {
         for kind in [0].into_iter().chain(5..16) {
-            assert_eq!(printed(&with(at, kind << 28 | 7)), "refused 20\n");
+            assert_eq!(printed(key_length, &with(at, kind << 28 | 7)), "refused 20\n");
         }
     }
     // Two cuts in a row, and a cut with nothing after it.
     for at in [1, 2, 4] {
-        assert_eq!(printed(&with(at, cut(1))), "refused 20\n");
+        assert_eq!(printed(key_length, &with(at, cut(1))), "refused 20\n");
     }
-    assert_eq!(printed(&bytes(&[cut(0)])), "refused 20\n");
+    assert_eq!(printed(key_length, &bytes(&[cut(0)])), "refused 20\n");
     // A broken word.
     let whole = bytes(&good);
     for length in 0..=whole.len() {
         let broken = length % 4 != 0 || length == 8;
-        assert_eq!(printed(&whole[..length]) == "refused 20\n", broken, "with {length} bytes");
-        compare(&whole[..length]);
+        assert_eq!(printed(key_length, &whole[..length]) == "refused 20\n", broken, "with {length} bytes");
+        compare(key_length, &whole[..length]);
     }
     // Too many words.
     let mut longest = vec![first_save(1)];
     longest.resize(4096, save(2));
-    compare(&bytes(&longest));
+    compare(key_length, &bytes(&longest));
     for more in [1, 4, 5, 100_000] {
         let mut trace = bytes(&longest);
         trace.resize(trace.len() + more, 0x20);
-        assert_eq!(printed(&trace), "refused 20\n");
+        assert_eq!(printed(key_length, &trace), "refused 20\n");
     }
 }
 
@@ -396,8 +415,7 @@ fn generated(random: &mut Random, differ: bool) -> Vec<u32> {
 
 /// Random traces whose nonces all differ, of which the cut rule speaks, and others whose nonces repeat. Every answer that
 /// a trace can get occurs.
-#[test]
-fn random_traces() {
+fn random_traces(key_length: usize) {
     for (differ, answers) in [
         (true, [(1, 0), (1, 5), (2, 0), (2, 6), (2, 8), (3, 0), (3, 6), (3, 13)].as_slice()),
         (false, &[(1, 0), (1, 5), (2, 0), (2, 6), (2, 8), (2, 10), (3, 0), (3, 6), (3, 10), (3, 13)]),
@@ -411,7 +429,7 @@ fn random_traces() {
                 let at = 4 * random.below(trace.len() / 4);
                 trace[at] = trace[at] & 0x0F | random.pick(&[0, 4, 5, 8, 15]) << 4;
             }
-            given.append(&mut compare(&trace));
+            given.append(&mut compare(key_length, &trace));
         }
         assert_eq!(given.into_iter().collect::<Vec<_>>(), answers);
     }
@@ -419,8 +437,7 @@ fn random_traces() {
 
 /// The longest traces take less than a second each: saves and power-ups without a cut, and with a cut in every second
 /// power-up, some far past its last store.
-#[test]
-fn longest_traces() {
+fn longest_traces(key_length: usize) {
     let mut random = Random::new(53);
     let mut whole = vec![first_save(0)];
     whole.extend((1..4096).map(|i| if random.chance(1, 2) { power_up(i) } else { save(i) }));
@@ -431,9 +448,39 @@ fn longest_traces() {
     }
     for words in [whole, cut_often] {
         let trace = bytes(&words);
-        let start = Instant::now();
-        let text = printed(&trace);
-        assert!(start.elapsed() < Duration::from_secs(1));
-        assert_eq!(text, expected(&trace).0);
+        for words in arguments(key_length) {
+            let start = Instant::now();
+            let (text, complaint) = run(words, &trace);
+            assert!(start.elapsed() < Duration::from_secs(1));
+            assert_eq!((text, complaint), (expected(key_length, &trace).0, String::new()));
+        }
+    }
+}
+
+/// Any other argument than `16` and `32`, and any two: a message on standard error, and no line, whatever the trace.
+#[test]
+fn wrong_arguments() {
+    let good = bytes(&[first_save(1), save(2)]);
+    // Linux passes no longer ones.
+    let long = ["16", "32", "1", "0"].map(|front| front.to_string() + &"0".repeat(131_071 - front.len()));
+    let mut wrong: Vec<Vec<&str>> = ["", "0", "1", "3", "6", "2", "8", "24", "31", "33", "61", "23", "128", "256"]
+        .into_iter()
+        .chain([
+            "016", "032", "16 ", " 16", "16\n", "+16", "-16", "0x10", "160", "161", "1616", "3232", "1632", "16,32",
+        ])
+        .chain(["--help", "-", "sixteen", "16 bytes"])
+        .chain(long.iter().map(String::as_str))
+        .map(|word| vec![word])
+        .collect();
+    for words in [["16", "16"], ["16", "32"], ["32", "32"], ["32", "16"], ["", "16"], ["16", ""], ["24", "32"]] {
+        wrong.push(words.to_vec());
+    }
+    wrong.push(vec!["32", "32", "32"]);
+    for words in wrong {
+        for trace in [&good[..], &[], &good[..3]] {
+            let (text, complaint) = run(&words, trace);
+            let words: Vec<&str> = words.iter().map(|word| &word[..word.len().min(20)]).collect();
+            assert!(text.is_empty() && !complaint.is_empty(), "with the arguments {words:?}: {text:?}, {complaint:?}");
+        }
     }
 }

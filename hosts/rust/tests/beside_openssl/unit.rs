@@ -1,8 +1,9 @@
 //! A unit under demand 3: its memories, what it was handed, and the book that is told of each call and cut. It has the
-//! firmware of the keeper, or up to some cut an older one (document 02, A.2 and A.5).
+//! firmware of the keeper, or up to some cut an older one (document 02, A.2 and A.5). Its key has one length throughout its
+//! life (A.8); firmware that does not take it stops every start and every look with 3.
 
 use crate::book::{self, Book, Cut};
-use crate::compare::{call, calls_in_a_row, saw};
+use crate::compare::{self, call, calls_in_a_row};
 use crate::firmware::{Firmware, KEEPER};
 use crate::layout::{blank, half_of, read_ring, Form, Reading, LARGEST_PACKET};
 use crate::operations::*;
@@ -16,6 +17,7 @@ pub struct Setup {
     pub fram: usize,
     /// The firmware that the unit begins with.
     pub firmware: Firmware,
+    pub key_length: usize,
     pub seed: u64,
 }
 
@@ -129,7 +131,7 @@ impl Unit {
     /// A blank ring and a FRAM of any bytes.
     pub fn new(setup: &Setup) -> Unit {
         let mut random = Random::new(setup.seed);
-        let key = random.bytes(32);
+        let key = random.bytes(setup.key_length);
         let lent = Lent {
             pages: setup.pages,
             slots: setup.slots,
@@ -187,10 +189,25 @@ impl Unit {
 
     /// The call, by the unit's firmware: the keeper's, compared with the documents, or an older one's, worked out here.
     fn call(&mut self, operation: Operation) -> Result<u32, String> {
-        match self.firmware {
-            KEEPER => call(operation, &mut self.lent),
-            older => Ok(perform(older, operation, &mut self.lent)),
+        let answer = match self.firmware {
+            KEEPER => call(operation, &mut self.lent)?,
+            older => perform(older, operation, &mut self.lent),
+        };
+        if operation != Operation::Advance && !self.takes_key() {
+            check(answer == 3, || format!("the firmware does not take the key, and {operation:?} answers {answer}"))?;
+            self.saw("3 by firmware that does not take the key");
         }
+        Ok(answer)
+    }
+
+    /// Notes that this was met with.
+    pub fn saw(&self, what: impl Into<String>) {
+        compare::saw(self.lent.key.len(), what);
+    }
+
+    /// Whether its firmware takes a key as long as its own.
+    pub fn takes_key(&self) -> bool {
+        self.firmware.takes_key_of(self.lent.key.len())
     }
 
     fn started(&mut self) {
@@ -236,14 +253,14 @@ impl Unit {
             check(stopped(answer), || format!("the session is of the older form, and a save answers {answer}"))?;
             self.lent.session = buffer;
             if answer == 3 {
-                saw("3 for a session of the older form");
+                self.saw("3 for a session of the older form");
             }
         }
         if !stopped(answer) {
             let c = &self.lent;
             let entry = self.book.entry.as_ref().ok_or("a save that did not stop, and nothing was recorded")?;
             if self.firmware.form == Form::Longer && entry.restarts > 0 {
-                saw(if c.packet > entry.packet { "restarts set to 0" } else { "restarts carried over" });
+                self.saw(if c.packet > entry.packet { "restarts set to 0" } else { "restarts carried over" });
             }
             self.book.save(self.firmware.form, &c.nonce, c.packet, &c.open_part, &c.secret);
             self.started();
@@ -258,6 +275,9 @@ impl Unit {
     pub fn power_up(&mut self) -> Result<u32, String> {
         self.lent.nonce = self.new_nonce();
         let answer = self.call(Operation::PowerUp)?;
+        if !self.takes_key() {
+            return Ok(answer);
+        }
         let Some(entry) = &self.book.entry else {
             check(answer == 6, || format!("nothing was recorded, and a power-up answers {answer}"))?;
             return Ok(answer);
@@ -267,21 +287,21 @@ impl Unit {
         if self.book.power_ups == 8 {
             check(answer == 13, || format!("8 power-ups were recorded, and a power-up answers {answer}"))?;
             if resealed {
-                saw(if outgrows { "13 before the resealing's 4" } else { "13 for the older form" });
+                self.saw(if outgrows { "13 before the resealing's 4" } else { "13 for the older form" });
             }
         } else if outgrows {
             check(answer == 4, || format!("the entry outgrows its half, and a power-up answers {answer}"))?;
-            saw("4 for a resealing that outgrows the half");
+            self.saw("4 for a resealing that outgrows the half");
         } else {
             check(answer == DONE, || format!("a checkpoint was recorded, and a power-up answers {answer}"))?;
             let length = self.lent.secret_len;
             check(length == entry.secret.len(), || format!("the secret part's length is {length}"))?;
             check(self.lent.state[..length] == entry.secret, || "another secret part in the state buffer".into())?;
             if resealed {
-                saw("the older form resealed");
+                self.saw("the older form resealed");
             }
             if entry.open_part.len().max(length) == KEEPER.part_limit {
-                saw("a part of 32,768 bytes resumed");
+                self.saw("a part of 32,768 bytes resumed");
             }
             self.book.power_up(self.firmware.form, &self.lent.nonce);
             self.started();
@@ -337,6 +357,9 @@ impl Unit {
     /// Look stops with 6 exactly if nothing was recorded; otherwise it sees the entry.
     pub fn look(&mut self) -> Result<(), String> {
         let answer = self.call(Operation::Look)?;
+        if !self.takes_key() {
+            return Ok(());
+        }
         let Some(entry) = &self.book.entry else {
             return check(answer == 6, || format!("nothing was recorded, and look answers {answer}"));
         };
@@ -424,7 +447,30 @@ impl Unit {
         let answer = self.call(Operation::PowerUp)?;
         check(answer == expected, || format!("it answers {answer}, not {expected}"))?;
         if answer == 13 {
-            saw("13 though the nonce is used");
+            self.saw("13 though the nonce is used");
+        }
+        Ok(())
+    }
+
+    /// A.8: a power-up and a look of the keeper's on copies of the memories, with keys of other lengths that are made of the
+    /// unit's: its front, or itself repeated.
+    pub fn trial_of_other_keys(&self) -> Result<(), String> {
+        let mut unit = self.clone();
+        unit.update(KEEPER);
+        unit.lent.nonce = unit.new_nonce();
+        let where_taken = if self.book.entry.is_some() { 12 } else { 6 };
+        for length in [16, 24, 32].into_iter().filter(|length| *length != self.lent.key.len()) {
+            unit.lent.key = self.lent.key.iter().copied().cycle().take(length).collect();
+            let expected = KEEPER.or_3(length, where_taken);
+            for operation in [Operation::PowerUp, Operation::Look] {
+                let answer = unit.call(operation)?;
+                check(answer == expected, || {
+                    format!("{operation:?} with a key of {length} bytes answers {answer}, not {expected}")
+                })?;
+            }
+            if expected == 12 {
+                self.saw("12 for a key of the other length");
+            }
         }
         Ok(())
     }

@@ -7,10 +7,10 @@ use Rattle.keeper_values.proofs.life.restart.Statement.{statement}
 use Rattle.keeper_values.proofs.life.restart.Tie as tie
 
 abbrev Inv-loop : tie.InvT-loop
-Inv-loop ring₀ fram₀ s₀ k₀ ring fram s k = (k ≤ 4) × (length ring ≡ length ring₀) × (length fram ≡ length fram₀)
+Inv-loop key ring₀ fram₀ s₀ k₀ ring fram s k = (k ≤ 4) × (length ring ≡ length ring₀) × (length fram ≡ length fram₀)
 
 abbrev μ-loop : tie.MeasureT-loop
-μ-loop ring₀ fram₀ s₀ k₀ ring fram s k = 4 - k
+μ-loop key ring₀ fram₀ s₀ k₀ ring fram s k = 4 - k
 
 pub restart-spec : {M : Type 1} → statement M
 restart-spec =

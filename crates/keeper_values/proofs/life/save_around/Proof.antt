@@ -7,10 +7,10 @@ use Rattle.keeper_values.proofs.life.save_around.Statement.{statement}
 use Rattle.keeper_values.proofs.life.save_around.Tie as tie
 
 abbrev Inv-loop : tie.InvT-loop
-Inv-loop ring₀ fram₀ s₀ k₀ ring fram s k = (k ≤ 3) × (length ring ≡ length ring₀) × (length fram ≡ length fram₀)
+Inv-loop key ring₀ fram₀ s₀ k₀ ring fram s k = (k ≤ 3) × (length ring ≡ length ring₀) × (length fram ≡ length fram₀)
 
 abbrev μ-loop : tie.MeasureT-loop
-μ-loop ring₀ fram₀ s₀ k₀ ring fram s k = 3 - k
+μ-loop key ring₀ fram₀ s₀ k₀ ring fram s k = 3 - k
 
 pub save-around-spec : {M : Type 1} → statement M
 save-around-spec =

@@ -8,7 +8,7 @@ returns : tie.Need-returns
 returns c =
     let called = c .before .before in
     let made = called .before .before in
-    first-starts _ _ _ _ _ _ _ (called .start-save .ensures) (made .from-tag .ensures .0)
+    first-starts _ _ _ _ _ _ _ _ (called .start-save .ensures) (made .from-tag .ensures .0)
 
 pub start-first-spec : {M : Type 1} → statement M
 start-first-spec =

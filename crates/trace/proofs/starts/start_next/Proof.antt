@@ -9,10 +9,10 @@ returns c =
     let called = c .before .before in
     let made = called .before .before in
     let test = made .before .before in
-    next-starts _ _ _ _ _ _ _ (called .start-save .ensures) (test .before .before .before .before .args .held) (test .if1 .taken) (made .from-session .ensures .0)
+    next-starts _ _ _ _ _ _ _ _ (called .start-save .ensures) (test .before .before .before .before .before .args .held) (test .if1 .taken) (made .from-session .ensures .0)
 
 returns-2 : tie.Need-returns-2
-returns-2 c = none-starts _ _ _ _ _ (c .before .before .before .before .before .args .held) (c .before .if1 .left) (c .no-save .ensures)
+returns-2 c = none-starts _ _ _ _ _ _ (c .before .before .before .before .before .before .args .held) (c .before .if1 .left) (c .no-save .ensures)
 
 pub start-next-spec : {M : Type 1} → statement M
 start-next-spec =

@@ -10,8 +10,8 @@ returns c =
     let called = c .before .before .before .before in
     let counted = called .before .before .before .before in
     let begun = counted .before .before .before in
-    let a = begun .before .before .before .before .before .before .before .args in
-    operates (view-unit (a .self) (a .ring .now) (a .fram .now)) (a .w) _ (begun .start .result) _ (counted .before .started .result) _ (begun .start .ensures) (counted .before .started .ensures)
+    let a = begun .before .before .before .before .before .before .before .before .args in
+    operates _ (view-unit (a .self) (a .ring .now) (a .fram .now)) (a .w) _ (begun .start .result) _ (counted .before .started .result) _ (begun .start .ensures) (counted .before .started .ensures)
     (counted .stores-until .ensures) (called .store-on .ensures)
 
 pub operate-spec : {M : Type 1} → statement M

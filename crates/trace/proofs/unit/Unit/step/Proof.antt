@@ -8,8 +8,8 @@ use Rattle.trace.proofs.unit.Unit.step.Tie as tie
 returns : tie.Need-returns
 returns c =
     let test = c .before .before in
-    let a = test .before .before .before .before .before .args in
-    stepped-cut (a .self) _ (a .w) _ _ _ _ _ (sym (test .before .is-cut .ensures) ∙ test .if1 .taken) (c .before .value .ensures .0) (c .with-cut .ensures)
+    let a = test .before .before .before .before .before .before .args in
+    stepped-cut _ (a .self) _ (a .w) _ _ _ _ _ (sym (test .before .is-cut .ensures) ∙ test .if1 .taken) (c .before .value .ensures .0) (c .with-cut .ensures)
 
 returns-2 : tie.Need-returns-2
 returns-2 c =
@@ -17,8 +17,8 @@ returns-2 c =
     let line = put .before .before in
     let called = line .before .before .before .before .before .before in
     let test = called .before .before .before in
-    let a = test .before .before .before .before .before .args in
-    stepped (a .self) _ (a .w) _ _ _ _ _ _ _ _ (called .operate .result) (line .line-after .result) (sym (test .before .is-cut .ensures) ∙ test .if1 .left) (called .operate .ensures) (line .line-after .ensures)
+    let a = test .before .before .before .before .before .before .args in
+    stepped _ (a .self) _ (a .w) _ _ _ _ _ _ _ _ (called .operate .result) (line .line-after .result) (sym (test .before .is-cut .ensures) ∙ test .if1 .left) (called .operate .ensures) (line .line-after .ensures)
     (put .put-line .ensures) (c .after .ensures)
 
 pub step-spec : {M : Type 1} → statement M

@@ -1,17 +1,17 @@
--- `checkpoint_values::show_all` meets its contract. Assumes nothing.
+-- `checkpoint_values::show_some` meets its contract. Assumes nothing.
 use Prim.Native.Nat.{_≤_, _-_}
 use borrow.Author.Needs.{needs}
-use Rattle.checkpoint_values.proofs.show_all.Statement.{statement}
-use Rattle.checkpoint_values.proofs.show_all.Tie as tie
+use Rattle.checkpoint_values.proofs.show_some.Statement.{statement}
+use Rattle.checkpoint_values.proofs.show_some.Tie as tie
 
 abbrev Inv-loop : tie.InvT-loop
-Inv-loop k₀ k = k ≤ 10
+Inv-loop short from to k₀ k = 0 ≤ k
 
 abbrev μ-loop : tie.MeasureT-loop
-μ-loop k₀ k = 10 - k
+μ-loop short from to k₀ k = to - k
 
-pub show-all-spec : {M : Type 1} → statement M
-show-all-spec =
+pub show-some-spec : {M : Type 1} → statement M
+show-some-spec =
     tie.close
     (tie.spec
     Inv-loop

@@ -1,0 +1,2 @@
+-- What the program's argument says.
+pub mod Argument
