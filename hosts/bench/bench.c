@@ -966,8 +966,8 @@ static void print_targets(const char *symbols)
     print_ratio("beyond the targets: the first, with BearSSL compiled with -O3", AES_256, FAST_CT64, 0.5);
     print_ratio("beyond the targets: the second, with BearSSL compiled with -O3", AES_256, FAST_BIG32, 1);
 #endif
-    out("| code and constants of the unit's own calls, all but Intel HEX's two, which are for the bench: under 24 KiB (24,576 bytes) | %ld; "
-        "with Intel HEX's %ld | %s |\n",
+    out("| code and constants of the unit's own calls, all but those for the bench, Intel HEX's two and keeper_ring_shape: under 24 KiB (24,576 bytes) | %ld; "
+        "with the bench's %ld | %s |\n",
         units, whole, units < 24576 ? "met" : "**not met**");
     out("| no heap | the archive's only undefined symbols: %s | %s |\n", symbols, no_heap(symbols) ? "met" : "**not met**");
 }

@@ -60,7 +60,7 @@ extern "C" {
 
 enum keeper_answer {
     KEEPER_DONE = 0,
-    KEEPER_RING_SIZE = 1,           /* pages, slots or the ring's length wrong */
+    KEEPER_RING_SIZE = 1,           /* pages, slots or the ring's length wrong; ring shape: also more than 4 pages or 4 slots */
     KEEPER_FRAM_SIZE = 2,           /* the length of the FRAM, or of an image to export or import, wrong */
     KEEPER_KEY_NONCE_TAG_SIZE = 3,  /* key neither 16 nor 32, nonce not 12 or tag not 16 bytes; save: `from` neither 16 bytes nor 48 */
     KEEPER_BUFFER_SIZE = 4,         /* a part not a multiple of 4 bytes, above 32,768, or the checkpoint longer than a half; staging, state,
@@ -85,6 +85,7 @@ enum keeper_answer {
     KEEPER_BAD_CHECKSUM = 16,       /* import: a line's checksum is wrong */
     KEEPER_DATA_MISPLACED = 17,     /* import: data outside the image, past a 64 KiB boundary within a line, or not above the data before */
     KEEPER_PACKET_TOO_LARGE = 18,   /* save: the packet number is above KEEPER_LARGEST_PACKET; tried right after 4 */
+    KEEPER_PAST_LAST_SHAPE = 26,    /* ring shape: the number is past the last of that size */
 
     KEEPER_GOING_ON = 256,          /* keeper_advance: more stores to come */
     KEEPER_SAVED = 257,             /* keeper_advance: done; a save's checkpoint is the newest */
@@ -205,6 +206,17 @@ uint32_t keeper_hex_export(const uint8_t *image, size_t image_len, uint8_t *text
  * Stops: 2, 15 to 17. Cost: one pass over the text to judge it and one to store.
  */
 uint32_t keeper_hex_import(const uint8_t *text, size_t text_len, uint8_t *image, size_t image_len);
+
+/* A ring for trying units at the bench: ring number `number`, counted from 0, of 3 or 4 pages and 2 to 4 slots, is written to `ring`, whose
+ * length is that ring's. Number 0 is blank. Then page by page: slot 0 newest with the page before pending and full of records; slot 0 newest
+ * alone; then slots 1, 2 and so on. Each record has a nonce of twelve zero bytes and names half A. There are KEEPER_RING_SHAPES(pages, slots):
+ * each shape of a readable ring once, and the blank one.
+ * Stops: 1, 26. Cost: one pass over the ring.
+ */
+uint32_t keeper_ring_shape(size_t pages, size_t slots, size_t number, uint8_t *ring, size_t ring_len);
+
+/* How many rings of 3 or 4 pages and 2 to 4 slots there are; 21 at the most. */
+#define KEEPER_RING_SHAPES(pages, slots) (1 + (pages) * (slots) + (pages))
 
 /* Zeroes a buffer of any length. Optimisation at link time may drop it where nothing reads the buffer any more. */
 void keeper_wipe(uint8_t *buffer, size_t buffer_len);

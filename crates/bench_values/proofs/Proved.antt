@@ -2,17 +2,18 @@
 use mathlib.Core.Path.{_≡_, refl}
 use Prim.Native.Nat.{ℕ}
 use lib.ListN.{length, length-replicate}
-use Rattle.octets.specs.Octets.{part, same, blank, number, bytes}
+use Rattle.octets.specs.Octets.{part, put, same, blank, number, bytes}
 use Rattle.octets.specs.Word.{word-at, kind-of, value-of, word}
 use Rattle.sbox.specs.Field.{xtime, times, power, inverse, affine, turned, sub-byte, _•_}
-use Rattle.ring.specs.Ring.{ring-wrong, slot-at, page-at, newest-record, nonce-in, nonce-used, not-newest, is-record, half-named, next-page, used-from, records, filled, alone, followed, reading, read-ring, target-page, target-slot}
+use Rattle.ring.specs.Ring.{ring-wrong, slot-at, page-at, newest-record, nonce-in, nonce-used, not-newest, is-record, half-named, next-page, used-from, records, filled, alone, followed, reading, read-ring, target-page, target-slot, page-before, page-put}
+use Rattle.ring_shapes.specs.Shapes.{from-slot, from-page, shapes, Rs, with-records, ring-of, ring-number, size-wrong, past-last, shape-stop}
 use Rattle.stops.specs.Stops.{first-of}
 use Rattle.gcm.specs.Calls.{key-wrong}
 use Rattle.checkpoint.specs.Fram.{fram-wrong, half-length, half-at}
 use Rattle.checkpoint.specs.Checkpoint.{Older, Longer, words, part-wrong, sealed}
 use Rattle.checkpoint.specs.Half.{form-of, kind-at, value-at, open-length, secret-length, stored-restarts, kinds-from, stored-length, good-head}
 use Rattle.checkpoint.proofs.SealedLaws.{length-sealed}
-use Rattle.bench_values.specs.Values.{M13, key, zeros, table, orders, one-save, keys, Agree, Values}
+use Rattle.bench_values.specs.Values.{M13, key, zeros, table, orders, one-save, keys, rings, Agree, Values}
 use Rattle.protocol.specs.Operations.{parts-wrong, state-wrong, staging-wrong, packet-wrong, session-wrong, save-restarts, larger, newest-half, from-wrong, stale, ring-lines, save-stop, half-lines, power-up-stop, look-stop}
 use Rattle.protocol.specs.Journal.{stores-of, erase-if}
 
@@ -42,6 +43,10 @@ keys-agree : Agree keys
 unfolding read-ring reading used-from page-at blank part from-wrong ring-lines save-stop power-up-stop look-stop first-of ring-wrong fram-wrong half-length parts-wrong part-wrong packet-wrong state-wrong staging-wrong key-wrong
 keys-agree = rw (zeros-long 0, zeros-long 15, zeros-long 16, zeros-long 17, zeros-long 24, zeros-long 31, zeros-long 32, zeros-long 33, zeros-long 96, zeros-long 32768)
 
+rings-agree : Agree rings
+unfolding ring-number ring-of with-records Rs shapes from-page from-slot shape-stop size-wrong past-last first-of ring-wrong page-put put page-before
+rings-agree = rw (zeros-long 96, zeros-long 144, zeros-long 192, zeros-long 128, zeros-long 256, zeros-long 160, zeros-long 240, zeros-long 95, zeros-long 97)
+
 pub values : Values
 unfolding Values
-values = (table-agrees, orders-agree, one-save-agrees, keys-agree)
+values = (table-agrees, orders-agree, one-save-agrees, keys-agree, rings-agree)

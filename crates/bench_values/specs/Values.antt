@@ -1,5 +1,5 @@
 -- Document 01's bench values M1 to M13 (its section "Bench values"), as lists: what the definitions give, beside what document 01 says;
--- M13 for both forms of a head, document 01's and document 02's (A.2); the bounds of A.2 and A.5, the order of A.6, the one save of A.7, and the key lengths of A.8.
+-- M13 for both forms of a head, document 01's and document 02's (A.2); the bounds of A.2 and A.5, the order of A.6, the one save of A.7, the key lengths of A.8, and the rings of A.9.
 use Prim.Native.Nat.{ℕ, _/_}
 use mathlib.Core.Path.{_≡_}
 use mathlib.Core.Bool.{Bool, true, false, not}
@@ -10,6 +10,7 @@ use Rattle.octets.specs.Limits.{slot-length, long-key, nonce-length, tag-length
 use Rattle.octets.specs.Octets.{erased}
 use Rattle.sbox.specs.Field.{xtime, sub-byte}
 use Rattle.ring.specs.Ring.{Newest, Blank, Unreadable, At, AtPending, is-record, half-named, read-ring, target-page, target-slot}
+use Rattle.ring_shapes.specs.Shapes.{R, ring-number, shape-stop}
 use Rattle.checkpoint.specs.Checkpoint.{Form, Older, Longer, Checkpoint, head-words, words, sealed}
 use Rattle.checkpoint.specs.Half.{good-head}
 use Rattle.protocol.specs.Types.{Firmware, first-firmware, packet-firmware, larger-firmware, half-first-firmware, this-firmware, Session}
@@ -21,9 +22,6 @@ use Rattle.protocol.specs.Journal.{Journal, stores-of}
 
 abbrev no-record : List ℕ
 no-record = erased slot-length
-
-abbrev R : List ℕ
-R = replicate nonce-length 0 ++ 0x40 ∷ 0 ∷ 0 ∷ 0 ∷ []
 
 abbrev zero-byte : List ℕ
 zero-byte = 0 ∷ erased 15
@@ -97,6 +95,7 @@ pub data Value : Type 0 where
   stops : Option ℕ → Value
   wrong : Bool → Value
   numbers : (restarts packet : ℕ) → Value
+  holds : List ℕ → Value
 
 abbrev read : List ℕ → Value
 read r = reads (read-ring r 3 2)
@@ -337,8 +336,50 @@ keys =
     (powers-up-under half-first-firmware 16, stops (some 3)) ∷
     (looks-under half-first-firmware 16, stops (some 3)) ∷ []
 
+-- ---- the rings of document 02, A.9
+
+-- ring number n of 3 pages with 2 slots
+abbrev shape : ℕ → Value
+shape n = holds (ring-number 3 2 n)
+
+-- what the call stops with, given a buffer of so many bytes
+abbrev makes : (pages slots number bytes : ℕ) → Value
+makes pages slots number n = stops (shape-stop pages slots number (zeros n))
+
+abbrev pub rings : List (Value × Value)
+rings =
+    (shape 0, holds M1) ∷
+    (shape 1, holds (ring R no-record no-record no-record R R)) ∷
+    (shape 2, holds M2) ∷
+    (shape 3, holds M3) ∷
+    (shape 4, holds M4) ∷
+    (shape 5, holds (ring no-record no-record R no-record no-record no-record)) ∷
+    (shape 6, holds (ring no-record no-record R R no-record no-record)) ∷
+    (shape 7, holds (ring no-record no-record R R R no-record)) ∷
+    (shape 8, holds (ring no-record no-record no-record no-record R no-record)) ∷
+    (shape 9, holds (ring no-record no-record no-record no-record R R)) ∷
+    (makes 3 2 9 96, stops none) ∷
+    (makes 3 2 10 96, stops (some 26)) ∷
+    (makes 3 3 12 144, stops none) ∷
+    (makes 3 3 13 144, stops (some 26)) ∷
+    (makes 3 4 15 192, stops none) ∷
+    (makes 3 4 16 192, stops (some 26)) ∷
+    (makes 4 2 12 128, stops none) ∷
+    (makes 4 2 13 128, stops (some 26)) ∷
+    (makes 4 3 16 192, stops none) ∷
+    (makes 4 3 17 192, stops (some 26)) ∷
+    (makes 4 4 20 256, stops none) ∷
+    (makes 4 4 21 256, stops (some 26)) ∷
+    (makes 2 2 0 64, stops (some 1)) ∷
+    (makes 5 2 0 160, stops (some 1)) ∷
+    (makes 3 1 0 48, stops (some 1)) ∷
+    (makes 3 5 0 240, stops (some 1)) ∷
+    (makes 3 2 0 95, stops (some 1)) ∷
+    (makes 3 2 0 97, stops (some 1)) ∷
+    (makes 3 2 10 95, stops (some 1)) ∷ []
+
 abbrev pub Agree : List (Value × Value) → Type 0
 Agree rows = map (λ v. v .0) rows ≡ map (λ v. v .1) rows
 
 unfoldable pub Values : Type 0
-Values = Agree table × Agree orders × Agree one-save × Agree keys
+Values = Agree table × Agree orders × Agree one-save × Agree keys × Agree rings

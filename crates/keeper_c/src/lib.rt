@@ -3,6 +3,7 @@
 mod calls;
 mod cipher;
 mod hex;
+mod shapes;
 mod starts;
 
 pub use calls::keeper_advance;
@@ -12,5 +13,6 @@ pub use cipher::keeper_seal;
 pub use cipher::keeper_wipe;
 pub use hex::keeper_hex_export;
 pub use hex::keeper_hex_import;
+pub use shapes::keeper_ring_shape;
 pub use starts::keeper_power_up;
 pub use starts::keeper_save;

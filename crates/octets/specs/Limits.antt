@@ -96,3 +96,10 @@ data-per-line = 16
 -- ---- recorded bench traces (document 02, A.4), in words
 abbrev pub trace-limit : ℕ
 trace-limit = 4096
+
+-- ---- the rings of the bench (document 02, A.9), which are small: the most pages and slots; the least are the ring's own
+abbrev pub shape-pages-limit : ℕ
+shape-pages-limit = 4
+
+abbrev pub shape-slots-limit : ℕ
+shape-slots-limit = 4

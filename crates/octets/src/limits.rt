@@ -43,3 +43,8 @@ pub const DATA_PER_LINE: usize = 16;
 
 // Recorded bench traces, in words.
 pub const TRACE_LIMIT: usize = 4096;
+
+// The rings of the bench: the most pages and slots; the least are the ring's own.
+pub const SHAPE_PAGES_LIMIT: usize = 4;
+
+pub const SHAPE_SLOTS_LIMIT: usize = 4;

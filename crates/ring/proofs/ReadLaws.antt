@@ -7,7 +7,9 @@ use native.Mathlib.Omega.{arith}
 use lib.ListN.{length}
 use borrow.Author.Tests.{eq-eqb, ne-eqb}
 use Rattle.octets.specs.Octets.{blank}
-use Rattle.ring.specs.Ring.{page-at, next-page, used-from, filled, records, alone, followed, reading, At, AtPending}
+use Rattle.ring.specs.Ring.{page-at, next-page, page-before, used-from, filled, records, alone, followed, reading, read-ring, At, AtPending}
+use Rattle.ring.proofs.TurnLaws as turns
+use Rattle.ring.proofs.TurnLaws.{PageBefore, before-laws, Before, before-is}
 use Rattle.ring.proofs.RecordLaws.{Records, page-with, records-with, filled-with, used-with}
 
 module _ (ring : List ℕ) (slots : ℕ) where
@@ -80,3 +82,26 @@ module _ {ring : List ℕ} {slots p : ℕ} {recs : List (List ℕ)} (h : Holds r
       → reading ring pages slots (p ∷ older ∷ []) ≡ AtPending p older
   unfolding reading
   reading-around pages older o s n = rw (ne-eqb older (next-page pages p) n, eq-eqb p (next-page pages older) s) (followed-with older o)
+
+-- ---- the whole ring: page `p` alone is used, or the page before it too
+module _ {ring : List ℕ} {slots p : ℕ} {recs : List (List ℕ)} (h : Holds ring slots p recs) (pages : ℕ) (l : p < pages) where
+  pub read-one : ((q : ℕ) → q < pages → (q ≡ p → ⊥) → blank (page-at ring slots q) ≡ true) → read-ring ring pages slots ≡ At p (length recs - 1)
+  unfolding read-ring reading
+  read-one others = ap (reading ring pages slots) (used-one ring slots pages p l (not-blank h) others) ∙ alone-with h
+
+  pub read-two : 3 ≤ pages → length recs ≡ 1 → blank (page-at ring slots (page-before pages p)) ≡ false
+      → ((q : ℕ) → q < pages → (q ≡ p → ⊥) → (q ≡ page-before pages p → ⊥) → blank (page-at ring slots q) ≡ true)
+      → read-ring ring pages slots ≡ AtPending p (page-before pages p)
+  unfolding read-ring
+  read-two some one used others = go (before-is pages p)
+    where
+      before : PageBefore pages p
+      before = before-laws pages p some l
+
+      go : Before pages p → read-ring ring pages slots ≡ AtPending p (page-before pages p)
+      go (turns.wrapped o e) =
+          ap (reading ring pages slots) (used-two ring slots pages p (page-before pages p) (omega (arith, some)) (omega (arith, l)) (not-blank h) used others)
+          ∙ reading-around h pages (page-before pages p) one (sym (before .on)) (before .apart)
+      go (turns.lower o e) =
+          ap (reading ring pages slots) (used-two ring slots pages (page-before pages p) p (omega arith) l used (not-blank h) (λ q b x y. others q b y x))
+          ∙ reading-follows h pages (page-before pages p) one (sym (before .on))

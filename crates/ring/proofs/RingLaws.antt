@@ -15,10 +15,10 @@ use Rattle.octets.proofs.Laws.{is-erased}
 use Rattle.ring.specs.Ring.{ring-wrong, slot-at, page-at, is-record, next-page, page-before, Newest, Blank, At, AtPending, reading, read-ring, newest-page, newest-slot, nonce-in, target-page, target-slot, page-put, record-put}
 use Rattle.ring.proofs.SizeLaws.{Sized, sized}
 use Rattle.ring.proofs.TurnLaws as turns
-use Rattle.ring.proofs.TurnLaws.{Turn, Same, New, turn, page-of-fits, slot-of-fits, NextPage, next-laws, PageBefore, before-laws, Before, before-is}
+use Rattle.ring.proofs.TurnLaws.{Turn, Same, New, turn, page-of-fits, slot-of-fits, NextPage, next-laws, PageBefore, before-laws}
 use Rattle.ring.proofs.RecordLaws.{Records, page-with, no-record, one-more, nonce-with, last-with, next-with, put-with}
 use Rattle.ring.proofs.PageLaws.{PutWithin, slot-in-page, page-blank, length-page, put-sizes, put-page, put-whole, put-other}
-use Rattle.ring.proofs.ReadLaws.{Holds, not-blank, used-none, used-one, used-two, alone-with, reading-follows, reading-around}
+use Rattle.ring.proofs.ReadLaws.{Holds, not-blank, used-none, read-one, read-two}
 pub use Rattle.ring.proofs.TurnLaws.{page-of, slot-of}
 pub use Rattle.ring.proofs.RecordLaws.{concat, any, last}
 
@@ -155,42 +155,15 @@ read-blank pages slots ring w b = rw (used-none ring slots 0 pages (λ q l u. pa
 
 module _ (pages slots : ℕ) (ring : List ℕ) (count : ℕ) (recs : List (List ℕ)) where
   pub read-alone : Ringed pages slots ring count false recs → read-ring ring pages slots ≡ At (page-of pages slots count) (slot-of slots count)
-  unfolding read-ring reading
   read-alone h =
-      let p : ℕ = page-of pages slots count in
       let e : length recs - 1 ≡ slot-of slots count = omega (arith, h .number) in
-      ap (reading ring pages slots) (used-one ring slots pages p (in-ring h) (not-blank (holds h)) (others-blank h))
-      ∙ alone-with (holds h) ∙ ap (At p) e
+      read-one (holds h) pages (in-ring h) (others-blank h) ∙ ap (At (page-of pages slots count)) e
 
   pub read-pending : Ringed pages slots ring count true recs
       → read-ring ring pages slots ≡ AtPending (page-of pages slots count) (page-before pages (page-of pages slots count))
-  unfolding read-ring
-  read-pending h = go (before-is pages p)
-    where
-      p : ℕ
-      p = page-of pages slots count
-
-      some : 3 ≤ pages
-      some = size h .numbers .some-pages
-
-      l : p < pages
-      l = in-ring h
-
-      before : PageBefore pages p
-      before = before-laws pages p some l
-
-      one : (length recs ≡ 1) × (blank (page-at ring slots (page-before pages p)) ≡ false)
-      one = h .pending refl
-
-      go : Before pages p → read-ring ring pages slots ≡ AtPending p (page-before pages p)
-      go (turns.wrapped o e) =
-          ap (reading ring pages slots) (used-two ring slots pages p (page-before pages p) (omega (arith, some)) (omega (arith, l)) (not-blank (holds h)) (one .1)
-          (λ q b x y. h .others q b x (λ c. y (c .0))))
-          ∙ reading-around (holds h) pages (page-before pages p) (one .0) (sym (before .on)) (before .apart)
-      go (turns.lower o e) =
-          ap (reading ring pages slots) (used-two ring slots pages (page-before pages p) p (omega arith) l (one .1) (not-blank (holds h))
-          (λ q b x y. h .others q b y (λ c. x (c .0))))
-          ∙ reading-follows (holds h) pages (page-before pages p) (one .0) (sym (before .on))
+  read-pending h =
+      let one = h .pending refl in
+      read-two (holds h) pages (in-ring h) (size h .numbers .some-pages) (one .0) (one .1) (λ q b x y. h .others q b x (λ c. y (c .0)))
 
   pub newest-is : (owed : Bool) → Ringed pages slots ring count owed recs
       → slot-at ring slots (page-of pages slots count) (slot-of slots count) ≡ last recs

@@ -24,6 +24,7 @@ pub enum Stop {
     DataMisplaced,
     PacketTooLarge,
     BadTrace,
+    PastLastShape,
 }
 
 // What an operation's checks say.
@@ -56,6 +57,7 @@ pub fn stop_number(stop: Stop) -> u32
         Stop::DataMisplaced => 17,
         Stop::PacketTooLarge => 18,
         Stop::BadTrace => 20,
+        Stop::PastLastShape => 26,
     }
 }
 

@@ -55,6 +55,7 @@ extern "C" {
     fn keeper_hex_export(image: *const u8, image_len: usize, text: *mut u8, text_len: usize,
         written: *mut usize) -> u32;
     fn keeper_hex_import(text: *const u8, text_len: usize, image: *mut u8, image_len: usize) -> u32;
+    fn keeper_ring_shape(pages: usize, slots: usize, number: usize, ring: *mut u8, ring_len: usize) -> u32;
     fn keeper_wipe(buffer: *mut u8, buffer_len: usize);
 }
 
@@ -142,6 +143,12 @@ pub fn hex_export(image: &[u8], text: &mut [u8], written: &mut usize) -> u32 {
 pub fn hex_import(text: &[u8], image: &mut [u8]) -> u32 {
     // Sound: see the top of this file.
     unsafe { keeper_hex_import(text.as_ptr(), text.len(), image.as_mut_ptr(), image.len()) }
+}
+
+/// Writes a ring of the bench into `ring`, by its number.
+pub fn ring_shape(sizes: Sizes, number: usize, ring: &mut [u8]) -> u32 {
+    // Sound: see the top of this file.
+    unsafe { keeper_ring_shape(sizes.pages, sizes.slots, number, ring.as_mut_ptr(), ring.len()) }
 }
 
 /// Zeroes a buffer of any length.

@@ -26,7 +26,8 @@
 //! What the keeper asks of a unit: one key and one set of sizes for its life, a nonce never used twice, one job at a
 //! time, advanced with the staging buffer as its start left it, and nobody else writing to the memories.
 //!
-//! [`hex_export`] and [`hex_import`] carry an image of either memory to a programmer and back, as Intel HEX.
+//! [`hex_export`] and [`hex_import`] carry an image of either memory to a programmer and back, as Intel HEX;
+//! [`ring_shape`] makes every shape of a readable ring of a small size, for trying units at the bench.
 //!
 //! The code behind these calls is proved. This crate hands slices on as they are, and has no checks of its own.
 //!
@@ -370,6 +371,41 @@ pub const fn hex_len(image_len: usize) -> usize {
 /// [`Stop::FramSize`], [`Stop::BadLine`], [`Stop::BadChecksum`], [`Stop::DataMisplaced`].
 pub fn hex_import(text: &[u8], image: &mut [u8]) -> Result<(), Stop> {
     done(calls::hex_import(text, image))
+}
+
+/// Writes ring number `number`, counted from 0, of 3 or 4 pages and 2 to 4 slots to a buffer of that ring's size.
+///
+/// Number 0 is blank. Then page by page: slot 0 newest with the page before pending and full of records; slot 0 newest
+/// alone; then slots 1, 2 and so on. Each record has a nonce of twelve zero bytes and names half A. There are
+/// 1 + pages × slots + pages: each shape of a readable ring once, and the blank one.
+///
+/// # Errors
+///
+/// [`Stop::RingSize`] (also for rings of more pages or slots), [`Stop::PastLastShape`].
+///
+/// # Every ring of 3 pages by 2 slots, tried
+///
+/// ```
+/// use godwitshelf::*;
+///
+/// let sizes = Sizes { pages: 3, slots: 2 };
+/// let mut ring = [0; 16 * 3 * 2];
+/// for number in 0.. {
+///     match ring_shape(sizes, number, &mut ring) {
+///         Ok(()) => {
+///             // A FRAM of zeros holds no checkpoint.
+///             let expected = if number == 0 { Stop::RingBlank } else { Stop::BadHead };
+///             assert_eq!(look(sizes, &ring, &[0; 96], &[7; 32]), Err(expected));
+///         }
+///         Err(stop) => {
+///             assert_eq!((number, stop), (10, Stop::PastLastShape));
+///             break;
+///         }
+///     }
+/// }
+/// ```
+pub fn ring_shape(sizes: Sizes, number: usize, ring: &mut [u8]) -> Result<(), Stop> {
+    done(calls::ring_shape(sizes, number, ring))
 }
 
 /// Zeroes a buffer of any length.

@@ -47,11 +47,13 @@ pub enum Stop {
     DataMisplaced,
     /// 18: the packet number is above 2^30 − 1.
     PacketTooLarge,
+    /// 26: the number is past the last ring of that size.
+    PastLastShape = 26,
 }
 
 impl Stop {
     /// Every stop, by its number.
-    pub const ALL: [Stop; 18] = [
+    pub const ALL: [Stop; 19] = [
         Stop::RingSize,
         Stop::FramSize,
         Stop::KeyNonceTagSize,
@@ -70,9 +72,10 @@ impl Stop {
         Stop::BadChecksum,
         Stop::DataMisplaced,
         Stop::PacketTooLarge,
+        Stop::PastLastShape,
     ];
 
-    /// The stop's number, 1 to 18.
+    /// The stop's number, 1 to 18 or 26.
     pub const fn number(self) -> u32 {
         self as u32
     }
@@ -116,6 +119,7 @@ impl Stop {
                 "data outside the image, past a 64 KiB boundary within a line, or not above the data before"
             }
             Stop::PacketTooLarge => "packet number too large",
+            Stop::PastLastShape => "number past the last ring of that size",
         }
     }
 }
@@ -133,10 +137,10 @@ mod tests {
     use super::*;
 
     #[test]
-    fn numbers_are_1_to_18_and_lead_back() {
-        for number in 0..30 {
+    fn numbers_are_1_to_18_and_26_and_lead_back() {
+        for number in 0..300 {
             let stop = Stop::from_number(number);
-            assert_eq!(stop.map(Stop::number), (1..=18).contains(&number).then_some(number));
+            assert_eq!(stop.map(Stop::number), matches!(number, 1..=18 | 26).then_some(number));
         }
     }
 

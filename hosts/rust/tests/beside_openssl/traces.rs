@@ -1,19 +1,17 @@
 //! Document 02, A.4: the lines of the program `bench_trace`, beside those that the documents' operations give; these are
 //! held against the book here, memories included. The key is of 32 zero bytes, or of 16 if the program's argument says so.
-//! The program's own memories do not show in its lines, nor does its key. The variable `KEEPER_PROGRAMS` names its folder;
-//! without it it is in the repository's `target/bin`.
+//! The program's own memories do not show in its lines, nor does its key.
 
 use crate::book::{Book, Cut};
 use crate::firmware::KEEPER;
 use crate::layout::{blank, read_ring, Reading};
 use crate::operations::*;
+use crate::programs::program;
 use crate::random::Random;
 use crate::unit::stopped;
 use std::collections::BTreeSet;
-use std::env;
 use std::fmt::Write as _;
 use std::io::Write as _;
-use std::path::{Path, PathBuf};
 use std::process::{Command, Stdio};
 use std::rc::Rc;
 use std::time::{Duration, Instant};
@@ -42,9 +40,7 @@ fn bytes(words: &[u32]) -> Vec<u8> {
 
 /// What the program, with these arguments, writes to standard output and to standard error.
 fn run(arguments: &[&str], trace: &[u8]) -> (String, String) {
-    let folder = env::var_os("KEEPER_PROGRAMS").map(PathBuf::from);
-    let folder = folder.unwrap_or_else(|| Path::new(env!("CARGO_MANIFEST_DIR")).join("../../target/bin"));
-    let program = folder.join("bench_trace");
+    let program = program("bench_trace");
     let mut command = Command::new(&program);
     command.args(arguments).stdin(Stdio::piped()).stdout(Stdio::piped()).stderr(Stdio::piped());
     let mut started = command.spawn().unwrap_or_else(|why| panic!("{}: {why}", program.display()));
