@@ -69,10 +69,12 @@ returns c =
     alone-is (c .before .before .before .before .before .before .pre) _ (c .before .before .before .before .if1 .taken) (c .before .before .put-records .ensures)
 
 page-before-requires : tie.Need-page-before-requires
-page-before-requires c κs = place (c .before .before .pre) .page-in
+page-before-requires c κs =
+    let h = c .before .before .pre in
+    omega (arith, place h .page-in, place h .number)
 
 put-records-requires-2 : tie.Need-put-records-requires-2
-put-records-requires-2 c κs = rw (c .before .page-before .ensures) (before-ends (c .before .before .before .before .pre))
+put-records-requires-2 c κs = rw (c .before .page-before .ensures) (omega (arith, before-ends (c .before .before .before .before .pre)))
 
 put-records-requires-3 : tie.Need-put-records-requires-3
 put-records-requires-3 c κs =
