@@ -10,7 +10,7 @@ use libc::STDIN_FILENO;
 use octets::limits::IMAGE_LIMIT;
 use stops::Check;
 ghost use mathlib.Core.Path.{_≡_};
-ghost use Prim.Native.Nat.{_+_, _≤_};
+ghost use Prim.Native.Nat.{_+_};
 ghost use lib.ListN.{length};
 ghost use Rattle.octets.specs.Limits.{image-limit};
 

@@ -1,15 +1,15 @@
 -- The rings of a size together: the theorem `each-shape`. Assumes nothing.
-use Prim.Native.Nat.{ℕ, zero, suc, _+_, _*_, _≤_, _<_}
+use Prim.Native.Nat.{ℕ, zero, suc, _≤_, _<_}
 use mathlib.Core.Path.{_≡_, refl, sym, ap, subst, _∙_}
-use mathlib.Core.Bool.{true, false, true≢false}
+use mathlib.Core.Bool.{false, true≢false}
 use mathlib.Core.List.{List}
 use native.Mathlib.Omega.{arith}
-use lib.ListN.{length, getD}
+use lib.ListN.{length}
 use Rattle.octets.specs.Limits.{pages-least, pages-limit, slots-least, slots-limit}
-use Rattle.ring.specs.Ring.{Newest, Blank, Unreadable, At, AtPending, ring-wrong, page-before, read-ring, is-blank, is-unreadable, is-pending, newest-page, newest-slot, Within}
+use Rattle.ring.specs.Ring.{Newest, Blank, Unreadable, At, AtPending, ring-wrong, read-ring, is-blank, is-unreadable, is-pending, Within}
 use Rattle.ring.proofs.SizeLaws.{Counts}
 use Rattle.ring.proofs.NewestLaws.{read-within, pending-before}
-use Rattle.ring_shapes.specs.Shapes.{Shape, NoRecord, shapes, ring-of, ring-number}
+use Rattle.ring_shapes.specs.Shapes.{shapes, ring-number}
 use Rattle.ring_shapes.specs.Each.{number-reads, Once, PendingBehind, EachShape}
 use Rattle.ring_shapes.proofs.PlaceLaws.{number-of, in-all, number-is, number-in-all, place-of}
 use Rattle.ring_shapes.proofs.RingLaws.{page-reading, shape-sizes, shape-reads, none-sizes, none-reads}

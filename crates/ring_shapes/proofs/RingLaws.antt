@@ -2,7 +2,7 @@
 use Prim.Native.Nat.{ℕ, zero, suc, _+_, _-_, _*_, _≤_, _<_}
 use mathlib.Core.Path.{_≡_, refl, sym, ap, _∙_}
 use mathlib.Core.Bool.{true, false}
-use mathlib.Core.List.{List, [], _∷_, _++_, append-assoc, List·Memᴰ, List·Memᴰ·cases-cons}
+use mathlib.Core.List.{List, _++_, append-assoc, List·Memᴰ·cases-cons}
 use mathlib.Core.Logic.{⊎-elim}
 use native.Mathlib.Nat.{add-zero}
 use native.Mathlib.Omega.{arith}
@@ -15,13 +15,13 @@ use Rattle.octets.specs.Word.{word}
 use Rattle.octets.proofs.Laws.{length-put, put-front, is-erased, erased-split, blank-erased}
 use Rattle.octets.proofs.Lent.{put-on}
 use Rattle.ring.specs.Ring.{ring-wrong, page-at, is-record, record-of, page-before, Newest, Blank, At, AtPending, read-ring, page-put, record-put}
-use Rattle.ring.proofs.SizeLaws.{Counts, Sized, sized}
+use Rattle.ring.proofs.SizeLaws.{Counts, sized}
 use Rattle.ring.proofs.TurnLaws.{PageBefore, before-laws}
-use Rattle.ring.proofs.RecordLaws.{concat, Records, page-with, no-record, length-record, is-record-of}
+use Rattle.ring.proofs.RecordLaws.{concat, Records, page-with, no-record, is-record-of}
 use Rattle.ring.proofs.PageLaws.{PutWithin, page-blank, length-page, put-sizes, put-page, put-other}
 use Rattle.ring.proofs.ReadLaws.{Holds, not-blank, read-one, read-two}
 use Rattle.ring.proofs.RingLaws.{read-blank}
-use Rattle.ring_shapes.specs.Shapes.{Shape, NoRecord, Pending, Alone, R, Rs, with-records, blank-ring, ring-of}
+use Rattle.ring_shapes.specs.Shapes.{NoRecord, Pending, Alone, R, Rs, with-records, blank-ring, ring-of}
 use Rattle.ring_shapes.proofs.PlaceLaws.{page-shape}
 
 -- how a page's shapes are read

@@ -1,11 +1,9 @@
 -- `ring_shapes::put_records` meets its contract: the loop's invariant is that R stands in the slots passed. Assumes nothing.
-use Prim.Native.Nat.{ℕ, _+_, _-_, _*_, _≤_}
+use Prim.Native.Nat.{_+_, _-_, _≤_}
 use mathlib.Core.Path.{_≡_, refl, sym, ap, _∙_}
-use mathlib.Core.List.{List}
 use native.Mathlib.Omega.{arith}
 use lib.ListN.{length}
 use borrow.Author.Needs.{needs}
-use Rattle.octets.specs.Limits.{slot-length}
 use Rattle.ring.specs.Ring.{record-put}
 use Rattle.ring_shapes.specs.Shapes.{R, with-records}
 use Rattle.ring_shapes.proofs.RingLaws.{R-is, with-none, with-more, with-length}

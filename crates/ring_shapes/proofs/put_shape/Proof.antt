@@ -8,8 +8,8 @@ use borrow.Author.Needs.{needs}
 use Rattle.octets.specs.Limits.{slot-length}
 use Rattle.ring.specs.Ring.{page-before}
 use Rattle.ring.proofs.SizeLaws.{Sized, sized, page-ends}
-use Rattle.ring.proofs.TurnLaws.{PageBefore, before-laws}
-use Rattle.ring_shapes.specs.Shapes.{with-records, blank-ring, ring-number}
+use Rattle.ring.proofs.TurnLaws.{before-laws}
+use Rattle.ring_shapes.specs.Shapes.{with-records, ring-number}
 use Rattle.ring_shapes.specs.Inner.{ToShape}
 use Rattle.ring_shapes.proofs.PlaceLaws.{Place}
 use Rattle.ring_shapes.proofs.RingLaws.{with-length}
