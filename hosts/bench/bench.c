@@ -702,6 +702,15 @@ static uint32_t import_largest(void)
     return !our_import(hex, sizeof hex);
 }
 
+/* Every ring of the largest size for the bench. */
+static uint32_t make_rings(void)
+{
+    uint32_t answer = 0;
+    for (size_t number = 0; number < KEEPER_RING_SHAPES(4, 4); number++)
+        answer |= keeper_ring_shape(4, 4, number, opened, KEEPER_SLOT_SIZE * 4 * 4);
+    return answer;
+}
+
 static struct {
     const char *name;
     uint32_t (*call)(void);
@@ -717,6 +726,7 @@ static struct {
     {"keeper_look", look, 0},
     {"keeper_hex_export", export_largest, 0},
     {"keeper_hex_import", import_largest, 0},
+    {"keeper_ring_shape", make_rings, 0},
 };
 
 /* Notes how deep a call goes, and hands on its answer. */
@@ -749,6 +759,7 @@ static void measure_stack(int cipher)
     compare(&sizes[COUNT(sizes) - 1]);
     need(measured(seal_largest) == 0 && measured(open_largest) == 0 && measured(wipe) == 0 && measured(look) == 0, "a call stopped");
     need(measured(export_largest) == 0 && measured(import_largest) == 0, "an export or import stopped");
+    need(measured(make_rings) == 0, "a ring was refused");
     measure_job(save, KEEPER_SAVED);
     restore();
     need(save() == 0, "a save stopped");
@@ -894,7 +905,8 @@ static void print_depths(void)
 {
     out("\n## Stack\n\n"
         "Bytes that a call writes below its caller's frame, arguments and callees included, at parts of 32,768 bytes and in every phase of a\n"
-        "job, with a key of either length, whichever goes deeper, or with an image of 262,144. Measured on a painted stack, not proved.\n\n"
+        "job, with a key of either length, whichever goes deeper, with an image of 262,144, or at every ring of 4 pages by 4 slots. Measured on a\n"
+        "painted stack, not proved.\n\n"
         "| call | bytes |\n");
     columns(1, 1);
     for (size_t i = 0; i < COUNT(depths); i++)

@@ -5,8 +5,8 @@ use lib.ListN.{length, length-replicate}
 use Rattle.octets.specs.Octets.{part, put, same, blank, number, bytes}
 use Rattle.octets.specs.Word.{word-at, kind-of, value-of, word}
 use Rattle.sbox.specs.Field.{xtime, times, power, inverse, affine, turned, sub-byte, _•_}
-use Rattle.ring.specs.Ring.{ring-wrong, slot-at, page-at, newest-record, nonce-in, nonce-used, not-newest, is-record, half-named, next-page, used-from, records, filled, alone, followed, reading, read-ring, target-page, target-slot, page-before, page-put}
-use Rattle.ring_shapes.specs.Shapes.{from-slot, from-page, shapes, Rs, with-records, ring-of, ring-number, size-wrong, past-last, shape-stop}
+use Rattle.ring.specs.Ring.{ring-wrong, slot-at, page-at, newest-record, nonce-in, nonce-used, not-newest, is-record, half-named, next-page, used-from, records, filled, alone, followed, reading, read-ring, target-page, target-slot, page-before, record-put}
+use Rattle.ring_shapes.specs.Shapes.{from-slot, from-page, shapes, with-records, ring-of, ring-number, size-wrong, past-last, shape-stop}
 use Rattle.stops.specs.Stops.{first-of}
 use Rattle.gcm.specs.Calls.{key-wrong}
 use Rattle.checkpoint.specs.Fram.{fram-wrong, half-length, half-at}
@@ -44,7 +44,7 @@ unfolding read-ring reading used-from page-at blank part from-wrong ring-lines s
 keys-agree = rw (zeros-long 0, zeros-long 15, zeros-long 16, zeros-long 17, zeros-long 24, zeros-long 31, zeros-long 32, zeros-long 33, zeros-long 96, zeros-long 32768)
 
 rings-agree : Agree rings
-unfolding ring-number ring-of with-records Rs shapes from-page from-slot shape-stop size-wrong past-last first-of ring-wrong page-put put page-before
+unfolding ring-number ring-of with-records shapes from-page from-slot shape-stop size-wrong past-last first-of ring-wrong record-put put page-before
 rings-agree = rw (zeros-long 96, zeros-long 144, zeros-long 192, zeros-long 128, zeros-long 256, zeros-long 160, zeros-long 240, zeros-long 95, zeros-long 97)
 
 pub values : Values

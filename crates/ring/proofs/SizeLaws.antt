@@ -7,7 +7,7 @@ use native.Mathlib.Nat.{mul-le-mul, mul-le-mul-right}
 use native.Mathlib.Omega.{arith}
 use lib.ListN.{length}
 use lib.Dec.{ltb}
-use borrow.Author.Tests.{ltb-false, eqb-true, not-false}
+use borrow.Author.Tests.{le-ltb, ltb-false, eq-eqb, eqb-true, not-false}
 use Rattle.octets.specs.Limits.{pages-least, pages-limit, slots-least, slots-limit, slot-length}
 use Rattle.stops.proofs.Laws.{neither}
 use Rattle.ring.specs.Ring.{ring-wrong}
@@ -44,6 +44,17 @@ unfolding ring-wrong
 sized pages slots ring w =
     let e = neither _ _ w in
     record { numbers = counts pages slots (e .0); bytes = eqb-true _ _ (not-false _ (e .1)) }
+
+pub right-size : {pages slots : ℕ} {ring : List ℕ} → Sized pages slots ring → ring-wrong pages slots ring ≡ false
+unfolding ring-wrong
+right-size {pages} {slots} {ring} z =
+    rw (
+      le-ltb pages pages-least (z .numbers .some-pages),
+      le-ltb pages-limit pages (z .numbers .few-pages),
+      le-ltb slots slots-least (z .numbers .some-slots),
+      le-ltb slots-limit slots (z .numbers .few-slots),
+      eq-eqb (length ring) (slot-length * (pages * slots)) (z .bytes),
+    )
 
 pub sized-alike : (pages slots : ℕ) (a b : List ℕ) → length a ≡ length b → ring-wrong pages slots b ≡ false → ring-wrong pages slots a ≡ false
 unfolding ring-wrong

@@ -7,12 +7,12 @@ use mathlib.Core.List.{List}
 use native.Mathlib.Omega.{arith}
 use lib.ListN.{length}
 use lib.Dec.{ltb}
-use borrow.Author.Tests.{ltb-true, ltb-false, le-ltb, lt-ltb, eq-eqb, not-false}
+use borrow.Author.Tests.{ltb-true, ltb-false, le-ltb, lt-ltb, not-false}
 use Rattle.octets.specs.Limits.{shape-pages-limit, shape-slots-limit}
 use Rattle.stops.specs.Stops.{first-of}
 use Rattle.stops.proofs.Laws.{neither}
 use Rattle.ring.specs.Ring.{ring-wrong, page-before}
-use Rattle.ring.proofs.SizeLaws.{sized}
+use Rattle.ring.proofs.SizeLaws.{Sized, sized, right-size, sized-alike}
 use Rattle.ring_shapes.specs.Shapes.{shapes, with-records, blank-ring, ring-of, ring-number, size-wrong, past-last, shape-stop, shaped-by, ring-shape}
 use Rattle.ring_shapes.specs.Each.{Small, StopsExactly}
 use Rattle.ring_shapes.proofs.PlaceLaws.{page-shape, in-all, number-is, Place, place-of}
@@ -68,41 +68,47 @@ number-none pages slots = refl
 
 -- ---- the sizes that are taken
 
-pub size-alike : (pages slots : ℕ) (a b : List ℕ) → length a ≡ length b → size-wrong pages slots b ≡ false → size-wrong pages slots a ≡ false
-unfolding size-wrong ring-wrong
-size-alike pages slots a b e w = rw e w
-
--- bounds of a size that passes stop 1
-pub record Few (pages slots : ℕ) (ring : List ℕ) : Type 0 where
-  pub right : ring-wrong pages slots ring ≡ false
-  pub few-pages : pages ≤ shape-pages-limit
-  pub few-slots : slots ≤ shape-slots-limit
-
-pub few : (pages slots : ℕ) (ring : List ℕ) → size-wrong pages slots ring ≡ false → Few pages slots ring
+-- what stop 1 tests: the ring's sizes, and the two limits
+parts : (pages slots : ℕ) (ring : List ℕ) → size-wrong pages slots ring ≡ false
+    → (ring-wrong pages slots ring ≡ false) × (pages ≤ shape-pages-limit) × (slots ≤ shape-slots-limit)
 unfolding size-wrong
-few pages slots ring w =
+parts pages slots ring w =
     let b = neither _ _ w in
     let a = neither _ _ (b .0) in
-    record { right = a .0; few-pages = ltb-false _ _ (a .1); few-slots = ltb-false _ _ (b .1) }
+    (a .0, ltb-false _ _ (a .1), ltb-false _ _ (b .1))
 
-small : (pages slots : ℕ) (ring : List ℕ) → size-wrong pages slots ring ≡ false → Small pages slots ring
+from-parts : (pages slots : ℕ) (ring : List ℕ) → ring-wrong pages slots ring ≡ false → pages ≤ shape-pages-limit → slots ≤ shape-slots-limit
+    → size-wrong pages slots ring ≡ false
+unfolding size-wrong
+from-parts pages slots ring r p s = rw (r, le-ltb shape-pages-limit pages p, le-ltb shape-slots-limit slots s)
+
+pub size-alike : (pages slots : ℕ) (a b : List ℕ) → length a ≡ length b → size-wrong pages slots b ≡ false → size-wrong pages slots a ≡ false
+size-alike pages slots a b e w =
+    let q = parts pages slots b w in
+    from-parts pages slots a (sized-alike pages slots a b e (q .0)) (q .1) (q .2)
+
+pub right : (pages slots : ℕ) (ring : List ℕ) → size-wrong pages slots ring ≡ false → Sized pages slots ring
+right pages slots ring w = sized pages slots ring (parts pages slots ring w .0)
+
+pub small : (pages slots : ℕ) (ring : List ℕ) → size-wrong pages slots ring ≡ false → Small pages slots ring
 small pages slots ring w =
-    let f = few pages slots ring w in
-    let z = sized pages slots ring (f .right) in
-    record { few-pages = (z .numbers .some-pages, f .few-pages); few-slots = (z .numbers .some-slots, f .few-slots); bytes = z .bytes }
+    let q = parts pages slots ring w in
+    let z = right pages slots ring w in
+    record { few-pages = (z .numbers .some-pages, q .1); few-slots = (z .numbers .some-slots, q .2); bytes = z .bytes }
 
 taken : (pages slots : ℕ) (ring : List ℕ) → Small pages slots ring → size-wrong pages slots ring ≡ false
-unfolding size-wrong ring-wrong
 taken pages slots ring s =
-    rw (
-      le-ltb pages 3 (s .few-pages .0),
-      le-ltb 32 pages (omega (arith, s .few-pages .1)),
-      le-ltb slots 2 (s .few-slots .0),
-      le-ltb 512 slots (omega (arith, s .few-slots .1)),
-      eq-eqb (length ring) (16 * (pages * slots)) (s .bytes),
-      le-ltb 4 pages (s .few-pages .1),
-      le-ltb 4 slots (s .few-slots .1),
-    )
+    from-parts pages slots ring
+    (right-size (record {
+      numbers = record {
+        some-pages = s .few-pages .0;
+        few-pages = omega (arith, s .few-pages .1);
+        some-slots = s .few-slots .0;
+        few-slots = omega (arith, s .few-slots .1);
+      };
+      bytes = s .bytes;
+    }))
+    (s .few-pages .1) (s .few-slots .1)
 
 pub stops-exactly : (pages slots number : ℕ) (ring : List ℕ) → StopsExactly pages slots number ring
 unfolding shape-stop first-of past-last

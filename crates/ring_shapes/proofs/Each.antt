@@ -6,11 +6,11 @@ use mathlib.Core.List.{List}
 use native.Mathlib.Omega.{arith}
 use lib.ListN.{length}
 use Rattle.octets.specs.Limits.{pages-least, pages-limit, slots-least, slots-limit}
-use Rattle.ring.specs.Ring.{Newest, Blank, Unreadable, At, AtPending, ring-wrong, read-ring, is-blank, is-unreadable, is-pending, Within}
+use Rattle.ring.specs.Ring.{Newest, Blank, Unreadable, At, AtPending, ring-wrong, read-ring, is-blank, is-unreadable, Within}
 use Rattle.ring.proofs.SizeLaws.{Counts}
 use Rattle.ring.proofs.NewestLaws.{read-within, pending-before}
 use Rattle.ring_shapes.specs.Shapes.{shapes, ring-number}
-use Rattle.ring_shapes.specs.Each.{number-reads, Once, PendingBehind, EachShape}
+use Rattle.ring_shapes.specs.Each.{number-reads, Once, EachShape}
 use Rattle.ring_shapes.proofs.PlaceLaws.{number-of, in-all, number-is, number-in-all, place-of}
 use Rattle.ring_shapes.proofs.RingLaws.{page-reading, shape-sizes, shape-reads, none-sizes, none-reads}
 
@@ -57,61 +57,49 @@ module _ {pages slots : ℕ} (c : Counts pages slots) where
   not-blank p zero = (refl, refl)
   not-blank p (suc s) = (refl, refl)
 
-  blank-once : Once pages slots (λ n. n ≡ Blank)
+  blank-once : Once pages slots Blank
   blank-once = record {
     number = 0;
-    in-all = omega (arith, in-all pages slots);
+    there = omega (arith, in-all pages slots);
     read-so = none-number;
     no-other = each (λ n. number-reads pages slots n ≡ Blank → n ≡ 0) (λ _. refl)
         (λ p j h b e. absurd (true≢false (ap is-blank (sym e ∙ number-read p j h b) ∙ not-blank p j .0)));
   }
 
-  once : (p j : ℕ) → p < pages → j ≤ slots → Once pages slots (λ n. n ≡ page-reading pages p j)
+  once : (p j : ℕ) → p < pages → j ≤ slots → Once pages slots (page-reading pages p j)
   once p j h b = record {
     number = number-of slots p j;
-    in-all = number-in-all pages slots p j h b;
+    there = number-in-all pages slots p j h b;
     read-so = number-read p j h b;
     no-other = each (λ n. number-reads pages slots n ≡ page-reading pages p j → n ≡ number-of slots p j)
         (λ e. absurd (true≢false (ap is-blank (sym none-number ∙ e) ∙ not-blank p j .0)))
         (λ q i l f e. same-number q i p j (sym (number-read q i l f) ∙ e));
   }
 
-  behind : (q i p : ℕ) → PendingBehind p (page-reading pages q i) → (q ≡ p) × (i ≡ 0)
-  behind q zero p w = (w .at-page, refl)
-  behind q (suc t) p w = absurd (true≢false (sym (w .pending)))
-
-  pending-once : (p : ℕ) → p < pages → Once pages slots (PendingBehind p)
-  pending-once p h = record {
-    number = number-of slots p 0;
-    in-all = number-in-all pages slots p 0 h (omega arith);
-    read-so = subst (PendingBehind p) (sym (number-read p 0 h (omega arith))) (record { pending = refl; at-page = refl; at-slot = refl });
-    no-other = each (λ n. PendingBehind p (number-reads pages slots n) → n ≡ number-of slots p 0)
-        (λ w. absurd (true≢false (sym (w .pending) ∙ ap is-pending none-number)))
-        (λ q i l f w.
-        let a = behind q i p (subst (PendingBehind p) (number-read q i l f) w) in
-        λ k. number-of slots (a .0 k) (a .1 k));
-  }
+  sizes : (n : ℕ) → n < length (shapes pages slots) → ring-wrong pages slots (ring-number pages slots n) ≡ false
+  sizes = each (λ n. ring-wrong pages slots (ring-number pages slots n) ≡ false) none-number-sizes number-sizes
 
   every : (ring : List ℕ) → ring-wrong pages slots ring ≡ false → is-unreadable (read-ring ring pages slots) ≡ false
-      → Once pages slots (λ n. n ≡ read-ring ring pages slots)
+      → Once pages slots (read-ring ring pages slots)
   every ring w u = go (read-ring ring pages slots) refl u (read-within pages slots ring w)
     where
-      go : (n : Newest) → read-ring ring pages slots ≡ n → is-unreadable n ≡ false → Within pages slots n → Once pages slots (λ m. m ≡ n)
+      go : (n : Newest) → read-ring ring pages slots ≡ n → is-unreadable n ≡ false → Within pages slots n → Once pages slots n
       go Blank e u i = blank-once
       go Unreadable e u i = absurd (true≢false u)
       go (At p s) e u i = once p (suc s) (i .page-in) (i .slot-in)
       go (AtPending p q) e u i =
-          subst (λ (o : ℕ). Once pages slots (λ m. m ≡ AtPending p o)) (sym (pending-before pages slots ring w p q e .1)) (once p 0 (i .page-in) (omega arith))
+          subst (λ (o : ℕ). Once pages slots (AtPending p o)) (sym (pending-before pages slots ring w p q e .1)) (once p 0 (i .page-in) (omega arith))
 
   each-of : EachShape pages slots
   each-of = record {
     in-all = in-all pages slots;
-    sizes = each (λ n. ring-wrong pages slots (ring-number pages slots n) ≡ false) none-number-sizes (λ p j h b. number-sizes p j h b);
+    sizes = sizes;
     blank = none-number;
     readable = λ n z h. each (λ n. 0 < n → (is-blank (number-reads pages slots n) ≡ false) × (is-unreadable (number-reads pages slots n) ≡ false))
         (λ z. absurd (omega arith)) (λ p j h b _. subst (λ (m : Newest). (is-blank m ≡ false) × (is-unreadable m ≡ false)) (sym (number-read p j h b)) (not-blank p j)) n h z;
     each-alone = λ p s h b. once p (suc s) h b;
-    each-pending = pending-once;
+    each-pending = λ p h. once p 0 h (omega arith);
+    pending-before = λ n p q h e. pending-before pages slots (ring-number pages slots n) (sizes n h) p q e .1;
     every = every;
   }
 

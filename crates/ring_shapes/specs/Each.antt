@@ -2,29 +2,23 @@
 -- every size of a ring that document 01 has, the bench's six among them.
 use Prim.Native.Nat.{ℕ, _+_, _*_, _≤_, _<_}
 use mathlib.Core.Path.{_≡_}
-use mathlib.Core.Bool.{true, false}
+use mathlib.Core.Bool.{false}
 use mathlib.Core.Option.{none, some}
 use mathlib.Core.List.{List}
 use lib.ListN.{length}
-use Rattle.ring.specs.Ring.{Newest, Blank, At, ring-wrong, read-ring, is-blank, is-unreadable, is-pending, newest-page, newest-slot}
+use Rattle.ring.specs.Ring.{Newest, Blank, At, AtPending, ring-wrong, page-before, read-ring, is-blank, is-unreadable}
 use Rattle.ring_shapes.specs.Shapes.{shapes, ring-number, shape-stop}
 
 -- how ring number n is read
 abbrev pub number-reads : (pages slots n : ℕ) → Newest
 number-reads pages slots n = read-ring (ring-number pages slots n) pages slots
 
--- exactly one number's ring is read in this way
-pub record Once (pages slots : ℕ) (way : Newest → Type 0) : Type 0 where
+-- exactly one number's ring is read so
+pub record Once (pages slots : ℕ) (reading : Newest) : Type 0 where
   pub number : ℕ
-  pub in-all : number < length (shapes pages slots)
-  pub read-so : way (number-reads pages slots number)
-  pub no-other : (n : ℕ) → n < length (shapes pages slots) → way (number-reads pages slots n) → n ≡ number
-
--- a page is pending, and slot 0 of this one has the newest record
-pub record PendingBehind (page : ℕ) (n : Newest) : Type 0 where
-  pub pending : is-pending n ≡ true
-  pub at-page : newest-page n ≡ page
-  pub at-slot : newest-slot n ≡ 0
+  pub there : number < length (shapes pages slots)
+  pub read-so : number-reads pages slots number ≡ reading
+  pub no-other : (n : ℕ) → n < length (shapes pages slots) → number-reads pages slots n ≡ reading → n ≡ number
 
 pub record EachShape (pages slots : ℕ) : Type 0 where
   -- there are 1 + P × S + P, each of the right size
@@ -34,12 +28,13 @@ pub record EachShape (pages slots : ℕ) : Type 0 where
   pub blank : number-reads pages slots 0 ≡ Blank
   pub readable : (n : ℕ) → 0 < n → n < length (shapes pages slots)
       → (is-blank (number-reads pages slots n) ≡ false) × (is-unreadable (number-reads pages slots n) ≡ false)
-  -- each newest place appears once with no page pending, and each at slot 0 once more with one
-  pub each-alone : (p s : ℕ) → p < pages → s < slots → Once pages slots (λ n. n ≡ At p s)
-  pub each-pending : (p : ℕ) → p < pages → Once pages slots (PendingBehind p)
+  -- each newest place appears once with no page pending, and each at slot 0 once more with one; a pending page is always the one before
+  pub each-alone : (p s : ℕ) → p < pages → s < slots → Once pages slots (At p s)
+  pub each-pending : (p : ℕ) → p < pages → Once pages slots (AtPending p (page-before pages p))
+  pub pending-before : (n p q : ℕ) → n < length (shapes pages slots) → number-reads pages slots n ≡ AtPending p q → q ≡ page-before pages p
   -- so whatever a ring of this size holds, if it is blank or readable, it is read as exactly one of them is
   pub every : (ring : List ℕ) → ring-wrong pages slots ring ≡ false → is-unreadable (read-ring ring pages slots) ≡ false
-      → Once pages slots (λ n. n ≡ read-ring ring pages slots)
+      → Once pages slots (read-ring ring pages slots)
 
 -- ---- the stops of the call, in numbers
 

@@ -10,7 +10,7 @@ use Rattle.octets.specs.Octets.{erased}
 use Rattle.stops.specs.Stops.{first-of}
 use Rattle.stops.specs.View.{check-number}
 use Rattle.stops.specs.declared.Check.{Check}
-use Rattle.ring.specs.Ring.{ring-wrong, page-before, page-put}
+use Rattle.ring.specs.Ring.{ring-wrong, page-before, record-put}
 
 -- ---- the shapes of a size, in the request's order
 
@@ -40,14 +40,10 @@ shapes pages slots = NoRecord ∷ from-page slots 0 pages
 abbrev pub R : List ℕ
 R = replicate nonce-length 0 ++ 0x40 ∷ 0 ∷ 0 ∷ 0 ∷ []
 
--- k of them in a row
-unfoldable pub Rs : ℕ → List ℕ
-Rs zero = []
-Rs (suc k) = R ++ Rs k
-
 -- a ring with R in the first k slots of a page
 unfoldable pub with-records : List ℕ → (slots page k : ℕ) → List ℕ
-with-records ring slots page k = page-put ring slots page (Rs k)
+with-records ring slots page zero = ring
+with-records ring slots page (suc k) = record-put (with-records ring slots page k) slots page k R
 
 abbrev pub blank-ring : (pages slots : ℕ) → List ℕ
 blank-ring pages slots = erased (slot-length * (pages * slots))

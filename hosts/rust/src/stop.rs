@@ -7,7 +7,7 @@ use std::fmt;
 #[derive(Clone, Copy, Debug, PartialEq, Eq, Hash, PartialOrd, Ord)]
 #[repr(u32)]
 pub enum Stop {
-    /// 1: pages, slots or the ring's length wrong.
+    /// 1: pages, slots or the ring's length wrong; of [`ring_shape`](crate::ring_shape), also more than 4 pages or 4 slots.
     RingSize = 1,
     /// 2: the length of the FRAM, or of an image to export or import, wrong.
     FramSize,

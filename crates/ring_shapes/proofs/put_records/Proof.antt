@@ -6,7 +6,7 @@ use lib.ListN.{length}
 use borrow.Author.Needs.{needs}
 use Rattle.ring.specs.Ring.{record-put}
 use Rattle.ring_shapes.specs.Shapes.{R, with-records}
-use Rattle.ring_shapes.proofs.RingLaws.{R-is, with-none, with-more, with-length}
+use Rattle.ring_shapes.proofs.RingLaws.{R-is, with-more, with-length}
 use Rattle.ring_shapes.proofs.put_records.Statement.{statement}
 use Rattle.ring_shapes.proofs.put_records.Tie as tie
 
@@ -17,9 +17,8 @@ abbrev μ-loop : tie.MeasureT-loop
 μ-loop ring₀ slots page k r slot₀ ring slot = k - slot
 
 loop-holds : tie.Need-loop-holds Inv-loop μ-loop
-loop-holds c =
-    let a = c .before .before .args in
-    (search needs, c .record-of .ensures ∙ sym R-is, sym (with-none (a .ring .now) (a .slots) (a .page)), refl)
+unfolding with-records
+loop-holds c = (search needs, c .record-of .ensures ∙ sym R-is, refl, refl)
 
 write-record-requires : tie.Need-write-record-requires Inv-loop μ-loop
 write-record-requires c κs = omega arith
@@ -30,7 +29,7 @@ loop-again c =
     let k = c .before .before .before .before .before .loop in
     let e : c .before .before .write-record .last .0 ≡ with-records (a .ring .now) (a .slots) (a .page) (k .slot + 1) =
     c .before .before .write-record .ensures ∙ (λ i. record-put (k .inv .2 i) (a .slots) (a .page) (k .slot) (k .inv .1 i))
-    ∙ with-more (a .ring .now) (a .slots) (a .page) (k .slot) (omega arith) in
+    ∙ with-more (a .ring .now) (a .slots) (a .page) (k .slot) in
     (search needs, k .inv .1, e, ap length e ∙ with-length (a .ring .now) (a .slots) (a .page) (k .slot + 1) (omega arith))
 
 returns : tie.Need-returns Inv-loop μ-loop

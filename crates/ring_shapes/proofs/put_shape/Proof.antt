@@ -7,13 +7,13 @@ use lib.ListN.{length}
 use borrow.Author.Needs.{needs}
 use Rattle.octets.specs.Limits.{slot-length}
 use Rattle.ring.specs.Ring.{page-before}
-use Rattle.ring.proofs.SizeLaws.{Sized, sized, page-ends}
+use Rattle.ring.proofs.SizeLaws.{Sized, page-ends}
 use Rattle.ring.proofs.TurnLaws.{before-laws}
 use Rattle.ring_shapes.specs.Shapes.{with-records, ring-number}
 use Rattle.ring_shapes.specs.Inner.{ToShape}
 use Rattle.ring_shapes.proofs.PlaceLaws.{Place}
 use Rattle.ring_shapes.proofs.RingLaws.{with-length}
-use Rattle.ring_shapes.proofs.CallLaws.{few, place-in, number-alone, number-pending}
+use Rattle.ring_shapes.proofs.CallLaws.{right, place-in, number-alone, number-pending}
 use Rattle.ring_shapes.proofs.put_shape.Statement.{statement}
 use Rattle.ring_shapes.proofs.put_shape.Tie as tie
 
@@ -29,7 +29,7 @@ module _ {pages slots number : ℕ} {ring : List ℕ} (h : ToShape pages slots n
   place = place-in pages slots number (h .not-first) (h .there)
 
   size : Sized pages slots ring
-  size = sized pages slots ring (few pages slots ring (h .size) .right)
+  size = right pages slots ring (h .size)
 
   ends : slot-length * (p * slots) + slot-length * slots ≤ length ring
   ends = page-ends size p (place .page-in)

@@ -7,16 +7,15 @@ use native.Mathlib.Omega.{arith}
 use lib.ListN.{length, length-replicate}
 use borrow.Author.Needs.{needs}
 use Rattle.octets.specs.Octets.{erased}
-use Rattle.ring.proofs.SizeLaws.{sized}
 use Rattle.ring_shapes.specs.Shapes.{blank-ring, ring-number, size-wrong, past-last}
 use Rattle.ring_shapes.specs.Inner.{ToShape}
-use Rattle.ring_shapes.proofs.CallLaws.{few, size-alike, stops-1, stops-26, written, number-none}
+use Rattle.ring_shapes.proofs.CallLaws.{right, small, size-alike, stops-1, stops-26, written, number-none}
 use Rattle.ring_shapes.proofs.ring_shape.Statement.{statement}
 use Rattle.ring_shapes.proofs.ring_shape.Tie as tie
 
 -- the buffer after it was filled
 filled : (pages slots : ℕ) (ring left : List ℕ) → size-wrong pages slots ring ≡ false → left ≡ erased (length ring) → left ≡ blank-ring pages slots
-filled pages slots ring left w e = e ∙ ap erased (sized pages slots ring (few pages slots ring w .right) .bytes)
+filled pages slots ring left w e = e ∙ ap erased (right pages slots ring w .bytes)
 
 to-shape : (pages slots number : ℕ) (ring left : List ℕ) → size-wrong pages slots ring ≡ false → past-last pages slots number ≡ false → left ≡ erased (length ring)
     → 0 < number → ToShape pages slots number left
@@ -35,8 +34,8 @@ returns c =
 past-last-requires : tie.Need-past-last-requires
 past-last-requires c κs =
     let a = c .before .before .before .before .args in
-    let f = few (a .pages) (a .slots) (a .ring .now) (sym (c .before .size-wrong .ensures) ∙ c .if1 .left) in
-    (f .few-pages, f .few-slots)
+    let s = small (a .pages) (a .slots) (a .ring .now) (sym (c .before .size-wrong .ensures) ∙ c .if1 .left) in
+    (s .few-pages .1, s .few-slots .1)
 
 returns-2 : tie.Need-returns-2
 returns-2 c =

@@ -31,7 +31,7 @@ mod one_save;
 mod openssl;
 mod operations;
 mod packets;
-mod programs;
+mod program;
 mod random;
 mod ring_shapes;
 mod seal_open;

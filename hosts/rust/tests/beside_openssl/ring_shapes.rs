@@ -4,7 +4,7 @@
 use crate::by_hand::*;
 use crate::layout::{half_of, read_ring, record, Checkpoint, Form, Reading};
 use crate::operations::*;
-use crate::programs::program;
+use crate::program::program;
 use godwitshelf::{calls, Sizes};
 use std::fmt::Write as _;
 use std::process::{Command, Stdio};
@@ -93,6 +93,20 @@ fn every_ring_of_every_size() {
     }
 }
 
+/// Nothing around a lent buffer changes.
+#[test]
+fn what_stands_around_the_buffer() {
+    for size in sizes() {
+        let length = 16 * size.pages * size.slots;
+        for (number, shape) in shapes(size).iter().enumerate() {
+            let mut memory = vec![0x55; length + 32];
+            assert_eq!(calls::ring_shape(size, number, &mut memory[16..16 + length]), DONE);
+            let around = [&[0x55; 16], &shape.ring[..], &[0x55; 16]].concat();
+            assert!(memory == around, "{size:?}: ring {number}");
+        }
+    }
+}
+
 /// "other sizes give 1": rings of more or fewer pages and slots, those that a unit takes among them, and buffers of another
 /// length; before 26, and without a byte written.
 #[test]
@@ -114,8 +128,11 @@ fn other_sizes() {
             }
         }
     }
-    // Products that would come out at 96 bytes, or at 6 slots, if they were taken at 64 bits.
-    for (pages, slots) in [(usize::MAX, 2), (1 << 63, 2), ((1 << 63) + 3, 2), (3, (1 << 63) + 2), (1 << 61, 1 << 61)] {
+    // Sizes whose bytes, worked out in 64 bits, would come out at 96.
+    for (pages, slots) in
+        [((1 << 63) + 3, 2), (3, (1 << 62) + 2), ((1 << 60) + 3, 2), (3, (1 << 60) + 2), (6, (1 << 60) + 1)]
+    {
+        assert_eq!(16usize.wrapping_mul(pages).wrapping_mul(slots), 96);
         for number in [0, 10] {
             assert_eq!(called(Sizes { pages, slots }, number, 96, 0x55), (1, vec![0x55; 96]), "{pages} by {slots}");
         }
@@ -197,6 +214,7 @@ fn every_ring_fed_to_a_unit(key_length: usize) {
             if !pending {
                 let mut save = unit.clone();
                 assert_eq!(answer(Operation::Save, &mut save), DONE, "{size:?}: ring {number}");
+                // Its secret part has a word more than the checkpoint before.
                 assert_eq!(finished(&mut save), stores + 1 + usize::from(opens), "{size:?}: ring {number}");
                 ended_at(&save, target);
             }
@@ -270,9 +288,9 @@ fn the_programs_rings() {
             let image = viewed(&[&pages, &slots, &number.to_string()]);
             assert!(image == (shape.ring.clone(), String::new()), "{size:?}: ring {number}");
         }
-        for past in [shapes.len(), 100, usize::MAX] {
-            let past = viewed(&[&pages, &slots, &past.to_string()]);
-            assert_eq!(past, (vec![], "refused 26\n".to_string()));
+        // 2^64 + 1 is ring 1 to whoever takes it at 64 bits.
+        for past in [&shapes.len().to_string(), "100", "18446744073709551615", "18446744073709551617"] {
+            assert_eq!(viewed(&[&pages, &slots, past]), (vec![], "refused 26\n".to_string()), "{size:?}: ring {past}");
         }
     }
 }
@@ -280,9 +298,10 @@ fn the_programs_rings() {
 #[test]
 fn the_programs_refusals() {
     let refused = (vec![], "refused 1\n".to_string());
-    for [pages, slots] in
-        [["2", "2"], ["5", "2"], ["3", "1"], ["4", "5"], ["0", "0"], ["32", "512"], ["4294967299", "2"]]
-    {
+    let others = [["2", "2"], ["5", "2"], ["3", "1"], ["4", "5"], ["0", "0"], ["32", "512"]];
+    // 3 by 2 to whoever takes them at 32 or at 64 bits.
+    let larger = [["4294967299", "2"], ["18446744073709551619", "2"], ["3", "18446744073709551618"]];
+    for [pages, slots] in others.into_iter().chain(larger) {
         assert_eq!(viewed(&[pages, slots]), refused, "{pages} by {slots}");
         assert_eq!(viewed(&[pages, slots, "0"]), refused, "{pages} by {slots}");
         assert_eq!(viewed(&[pages, slots, "99"]), refused, "{pages} by {slots}");

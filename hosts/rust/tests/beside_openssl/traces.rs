@@ -6,7 +6,7 @@ use crate::book::{Book, Cut};
 use crate::firmware::KEEPER;
 use crate::layout::{blank, read_ring, Reading};
 use crate::operations::*;
-use crate::programs::program;
+use crate::program::program;
 use crate::random::Random;
 use crate::unit::stopped;
 use std::collections::BTreeSet;

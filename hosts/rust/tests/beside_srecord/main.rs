@@ -6,6 +6,8 @@ mod compare;
 mod damaged;
 mod intel_hex;
 mod lines;
+#[path = "../beside_openssl/program.rs"]
+mod program;
 mod programs;
 #[path = "../beside_openssl/random.rs"]
 mod random;

@@ -1,20 +1,16 @@
-//! The programs `hex_export` and `hex_import`. The variable `KEEPER_PROGRAMS` names their folder; without it they are in
-//! the repository's `target/bin`.
+//! The programs `hex_export` and `hex_import`.
 
 use crate::compare::PATTERN;
 use crate::intel_hex::{self, line, END, LARGEST};
+use crate::program::program;
 use crate::random::Random;
 use crate::srec_cat::{self, file};
-use std::env;
 use std::fs::{self, File};
-use std::path::{Path, PathBuf};
 use std::process::Command;
 
 /// What a program writes to standard output and standard error, with these bytes on standard input.
 fn run(test: &str, name: &str, words: &[&str], input: &[u8]) -> (Vec<u8>, String) {
-    let folder = env::var_os("KEEPER_PROGRAMS").map(PathBuf::from);
-    let folder = folder.unwrap_or_else(|| Path::new(env!("CARGO_MANIFEST_DIR")).join("../../target/bin"));
-    let program = folder.join(name);
+    let program = program(name);
     let from = file(&format!("{test}.{name}"));
     fs::write(&from, input).unwrap();
     let ran = Command::new(&program).args(words).stdin(File::open(from).unwrap()).output();
