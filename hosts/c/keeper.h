@@ -20,8 +20,8 @@
  *
  * The memories
  * `ring` is the nonce ring in flash: pages x slots x 16 bytes, pages 3 to 32, slots 2 to 512; a page is what one erase of the chip clears.
- * `fram` is the FRAM: 88 to 262,144 bytes, a multiple of 8, in two halves. Of all calls only keeper_advance writes to a unit's memories, one store for each
- * call:
+ * `fram` is the FRAM: 88 to 262,144 bytes, a multiple of 8, in two halves. Only keeper_advance writes to a unit's memories, one store for
+ * each call:
  *     phase 1 or 4   the page in bytes 4..8 of the job, set to 0xFF
  *     phase 2        4 bytes of the FRAM at half x fram_len / 2 + 4 x (the word in bytes 4..8 of the job)
  *     phase 3        the record, 16 bytes of the ring at 16 x (target page x slots + target slot)
@@ -211,8 +211,8 @@ uint32_t keeper_hex_import(const uint8_t *text, size_t text_len, uint8_t *image,
 /* A ring for trying units at the bench: ring number `number`, counted from 0, of 3 or 4 pages and 2 to 4 slots, is written to `ring`, whose
  * length is that ring's. Number 0 is blank. Then page by page: slot 0 newest with the page before pending and full of records; slot 0 newest
  * alone; then slots 1, 2 and so on. Each record has a nonce of twelve zero bytes and names half A. There are KEEPER_RING_SHAPES(pages, slots):
- * each shape of a readable ring once, and the blank one. A unit with such a ring resumes if half A of its FRAM holds a checkpoint sealed
- * under that nonce; otherwise a power-up gives 11 or 12, and with number 0 always 6.
+ * each shape of a readable ring once, and the blank one. A power-up on such a ring opens what half A of the FRAM holds; where that is no
+ * checkpoint sealed under that nonce it gives 11 or 12, and on number 0 always 6.
  * Stops: 1, 26. Cost: each byte of the ring is written once, those of records twice.
  */
 uint32_t keeper_ring_shape(size_t pages, size_t slots, size_t number, uint8_t *ring, size_t ring_len);

@@ -31,7 +31,7 @@ module _ (pages slots number : ℕ) (ring : List ℕ) where
   unfolding ring-shape shaped-by shape-stop first-of
   written left w l e = rw (w, l, e)
 
--- the last number is that of as many shapes for each page as it has slots, and one
+-- a page has one shape more than it has slots
 pub past-is : (pages slots number : ℕ) → ltb (pages * (slots + 1)) number ≡ past-last pages slots number
 unfolding past-last
 past-is pages slots number = go (ltb number (length (shapes pages slots))) refl

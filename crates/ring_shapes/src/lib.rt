@@ -22,7 +22,7 @@ fn size_wrong(ring: &[u8], pages: usize, slots: usize) -> bool
     ring_wrong(ring, pages, slots) | (pages > SHAPE_PAGES_LIMIT) | (slots > SHAPE_SLOTS_LIMIT)
 }
 
-// Stop 26. A page has one ring more than it has slots.
+// Stop 26. A page has one shape more than it has slots.
 fn past_last(pages: usize, slots: usize, number: usize) -> bool
     requires { ⌜ (pages ≤ shape-pages-limit) × (slots ≤ shape-slots-limit) ⌝ }
     ensures { λ r. ⌜ r ≡ past-last pages slots number ⌝ }

@@ -379,8 +379,8 @@ pub fn hex_import(text: &[u8], image: &mut [u8]) -> Result<(), Stop> {
 /// alone; then slots 1, 2 and so on. Each record has a nonce of twelve zero bytes and names half A. There are
 /// 1 + pages × slots + pages: each shape of a readable ring once, and the blank one.
 ///
-/// A unit with such a ring resumes if half A of its FRAM holds a checkpoint sealed under that nonce; otherwise a power-up
-/// gives [`Stop::BadHead`] or [`Stop::TagDiffers`], and with number 0 always [`Stop::RingBlank`].
+/// A power-up on such a ring opens what half A of the FRAM holds; where that is no checkpoint sealed under that nonce it
+/// gives [`Stop::BadHead`] or [`Stop::TagDiffers`], and on number 0 always [`Stop::RingBlank`].
 ///
 /// # Errors
 ///
