@@ -390,6 +390,11 @@ static uint32_t look(void)
     return keeper_look(pages, slots, ring, ring_len, fram, fram_len, key, key_len, &restarts, &open_start, &open_len);
 }
 
+static uint32_t factory_check(void)
+{
+    return keeper_factory_check(pages, slots, ring, ring_len, fram, fram_len, key, key_len);
+}
+
 static uint32_t advance(void)
 {
     return keeper_advance(pages, slots, ring, ring_len, fram, fram_len, staging, fram_len / 2, job, sizeof job, session, sizeof session);
@@ -727,6 +732,7 @@ static struct {
     {"keeper_hex_export", export_largest, 0},
     {"keeper_hex_import", import_largest, 0},
     {"keeper_ring_shape", make_rings, 0},
+    {"keeper_factory_check", factory_check, 0},
 };
 
 /* Notes how deep a call goes, and hands on its answer. */
@@ -769,6 +775,7 @@ static void measure_stack(int cipher)
     measure_job(power_up, KEEPER_RESTORED);
     blank(3, 2, LARGEST_PART);
     measure_job(first_save, KEEPER_SAVED);
+    need(measured(factory_check) == 0, "a first save was refused");
 }
 
 /* ---- the page */
@@ -978,7 +985,7 @@ static void print_targets(const char *symbols)
     print_ratio("beyond the targets: the first, with BearSSL compiled with -O3", AES_256, FAST_CT64, 0.5);
     print_ratio("beyond the targets: the second, with BearSSL compiled with -O3", AES_256, FAST_BIG32, 1);
 #endif
-    out("| code and constants of the unit's own calls, all but those for the bench, Intel HEX's two and keeper_ring_shape: under 24 KiB (24,576 bytes) | %ld; "
+    out("| code and constants of the unit's own calls, all but those for the bench, Intel HEX's two, keeper_ring_shape and keeper_factory_check: under 24 KiB (24,576 bytes) | %ld; "
         "with the bench's %ld | %s |\n",
         units, whole, units < 24576 ? "met" : "**not met**");
     out("| no heap | the archive's only undefined symbols: %s | %s |\n", symbols, no_heap(symbols) ? "met" : "**not met**");

@@ -86,6 +86,8 @@ enum keeper_answer {
     KEEPER_BAD_CHECKSUM = 16,       /* import: a line's checksum is wrong */
     KEEPER_DATA_MISPLACED = 17,     /* import: data outside the image, past a 64 KiB boundary within a line, or not above the data before */
     KEEPER_PACKET_TOO_LARGE = 18,   /* save: the packet number is above KEEPER_LARGEST_PACKET; tried right after 4 */
+    KEEPER_NOT_FIRST_SAVE = 19,     /* factory check: the newest record is not at page 0, slot 0 or names half B, a page is pending, restarts
+                                       are not 0, or the head is the older one; tried after 12 */
     KEEPER_PAST_LAST_SHAPE = 26,    /* ring shape: the number is past the last of that size */
 
     KEEPER_GOING_ON = 256,          /* keeper_advance: more stores to come */
@@ -219,6 +221,14 @@ uint32_t keeper_ring_shape(size_t pages, size_t slots, size_t number, uint8_t *r
 
 /* How many rings keeper_ring_shape has of one size, 3 or 4 pages and 2 to 4 slots; 21 at the most. */
 #define KEEPER_RING_SHAPES(pages, slots) (1 + (pages) * (slots) + (pages))
+
+/* Checks what an assembly house programs: a new unit's ring and FRAM. Answers 0 exactly if they are what keeper_save with a starting tag
+ * leaves on a blank ring, advanced to its end, for some parts, nonce, packet number and starting tag: that ring, and in the checkpoint's length
+ * of half A those bytes. All other bytes of the FRAM are free. A unit so programmed starts by a power-up.
+ * Stops: 1 to 3, 6, 7, 11, 12, 19. Cost: one reading of the ring; the checkpoint is hashed once.
+ */
+uint32_t keeper_factory_check(size_t pages, size_t slots, const uint8_t *ring, size_t ring_len,
+                     const uint8_t *fram, size_t fram_len, const uint8_t *key, size_t key_len);
 
 /* Zeroes a buffer of any length. Optimisation at link time may drop it where nothing reads the buffer any more. */
 void keeper_wipe(uint8_t *buffer, size_t buffer_len);

@@ -2,3 +2,4 @@
 pub mod Steps
 pub mod Whole
 pub mod Columns
+pub mod Bytes

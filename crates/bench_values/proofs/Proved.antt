@@ -13,9 +13,10 @@ use Rattle.checkpoint.specs.Fram.{fram-wrong, half-length, half-at}
 use Rattle.checkpoint.specs.Checkpoint.{Older, Longer, words, part-wrong, sealed}
 use Rattle.checkpoint.specs.Half.{form-of, kind-at, value-at, open-length, secret-length, stored-restarts, kinds-from, stored-length, good-head}
 use Rattle.checkpoint.proofs.SealedLaws.{length-sealed}
-use Rattle.bench_values.specs.Values.{M13, key, zeros, table, orders, one-save, keys, rings, Agree, Values}
+use Rattle.bench_values.specs.Values.{M13, key, zeros, table, orders, one-save, keys, rings, new-units, Agree, Values}
 use Rattle.protocol.specs.Operations.{parts-wrong, state-wrong, staging-wrong, packet-wrong, session-wrong, save-restarts, larger, newest-half, from-wrong, stale, ring-lines, save-stop, half-lines, power-up-stop, look-stop}
 use Rattle.protocol.specs.Journal.{stores-of, erase-if}
+use Rattle.factory.specs.Factory.{not-first, factory-stop}
 
 older-long : length (sealed key (M13 Older)) ≡ 56
 older-long = length-sealed key (M13 Older) refl
@@ -47,6 +48,10 @@ rings-agree : Agree rings
 unfolding ring-number ring-of with-records shapes from-page from-slot shape-stop size-wrong past-last first-of ring-wrong record-put put page-before
 rings-agree = rw (zeros-long 96, zeros-long 144, zeros-long 192, zeros-long 128, zeros-long 256, zeros-long 160, zeros-long 240, zeros-long 95, zeros-long 97)
 
+new-units-agree : Agree new-units
+unfolding read-ring reading used-from alone followed filled records is-record half-named next-page page-at blank part number word-at kind-of value-of look-stop newest-half newest-record slot-at half-at form-of good-head kinds-from kind-at value-at open-length secret-length stored-restarts stored-length first-of ring-wrong fram-wrong half-length key-wrong factory-stop not-first
+new-units-agree = rw (zeros-long 16, zeros-long 24, zeros-long 32)
+
 pub values : Values
 unfolding Values
-values = (table-agrees, orders-agree, one-save-agrees, keys-agree, rings-agree)
+values = (table-agrees, orders-agree, one-save-agrees, keys-agree, rings-agree, new-units-agree)

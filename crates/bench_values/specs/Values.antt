@@ -1,5 +1,6 @@
 -- Document 01's bench values M1 to M13 (its section "Bench values"), as lists: what the definitions give, beside what document 01 says;
--- M13 for both forms of a head, document 01's and document 02's (A.2); the bounds of A.2 and A.5, the order of A.6, the one save of A.7, the key lengths of A.8, and the rings of A.9.
+-- M13 for both forms of a head, document 01's and document 02's (A.2); the bounds of A.2 and A.5, the order of A.6, the one save of A.7, the key lengths of A.8, the rings of A.9, and
+-- what A.10 refuses.
 use Prim.Native.Nat.{ℕ, _/_}
 use mathlib.Core.Path.{_≡_}
 use mathlib.Core.Bool.{Bool, true, false, not}
@@ -17,6 +18,7 @@ use Rattle.protocol.specs.Types.{Firmware, first-firmware, packet-firmware, lar
 use Rattle.protocol.specs.Calls.{sizes, From, from-tag, from-session}
 use Rattle.protocol.specs.Operations.{session-wrong, save-restarts, larger, save-stop, power-up-stop, look-stop}
 use Rattle.protocol.specs.Journal.{Journal, stores-of}
+use Rattle.factory.specs.Factory.{not-first, factory-stop}
 
 -- ---- rings of 3 pages with 2 slots
 
@@ -378,8 +380,35 @@ rings =
     (makes 3 2 0 97, stops (some 1)) ∷
     (makes 3 2 10 95, stops (some 1)) ∷ []
 
+-- ---- the check of document 02, A.10
+
+-- a ring of 3 pages with 2 slots, a FRAM of n zero bytes, which have no head (stop 11), and a key of m
+abbrev checks : (ring : List ℕ) → (n m : ℕ) → Value
+checks ring n m = stops (factory-stop ring (replicate n 0) (record { sizes = sizes 3 2; key = zeros m }))
+
+-- what the ring reads as, the half that is named, and the form and the restarts of its head (stop 19)
+abbrev no-first : Newest → ℕ → Form → ℕ → Value
+no-first n half form restarts = wrong (not-first n half form restarts)
+
+abbrev pub new-units : List (Value × Value)
+new-units =
+    (checks [] 80 24, stops (some 1)) ∷
+    (checks M1 80 24, stops (some 2)) ∷
+    (checks M1 96 24, stops (some 3)) ∷
+    (checks M1 96 32, stops (some 6)) ∷
+    (checks M7 96 32, stops (some 7)) ∷
+    (checks M2 96 32, stops (some 11)) ∷
+    (checks M4 96 16, stops (some 11)) ∷
+    (no-first (At 0 0) 0 Longer 0, wrong false) ∷
+    (no-first (At 1 0) 0 Longer 0, wrong true) ∷
+    (no-first (At 0 1) 0 Longer 0, wrong true) ∷
+    (no-first (At 0 0) 1 Longer 0, wrong true) ∷
+    (no-first (AtPending 0 2) 0 Longer 0, wrong true) ∷
+    (no-first (At 0 0) 0 Longer 1, wrong true) ∷
+    (no-first (At 0 0) 0 Older 0, wrong true) ∷ []
+
 abbrev pub Agree : List (Value × Value) → Type 0
 Agree rows = map (λ v. v .0) rows ≡ map (λ v. v .1) rows
 
 unfoldable pub Values : Type 0
-Values = Agree table × Agree orders × Agree one-save × Agree keys × Agree rings
+Values = Agree table × Agree orders × Agree one-save × Agree keys × Agree rings × Agree new-units

@@ -3,16 +3,15 @@ use Prim.Native.Nat.{ℕ, zero, suc, _+_, _*_, _/_, _%_, _^_, _≤_, _<_}
 use mathlib.Core.Path.{_≡_, refl, sym, ap, ap₂, _∙_}
 use mathlib.Core.Bool.{true}
 use mathlib.Core.List.{List, [], _∷_, _++_}
-use native.Mathlib.Nat.{div-add-mod'}
 use native.Mathlib.Omega.{arith}
 use lib.ListN.{length, take, drop, getD, take-append-drop}
 use lib.Seq.{take-add, drop-drop}
 use borrow.Author.Tests.{eqb-true, leb-true}
 use Rattle.octets.specs.Limits.{restart-limit, packet-limit, tag-length}
-use Rattle.octets.specs.Octets.{part, number, bytes}
+use Rattle.octets.specs.Octets.{Bytes, part}
 use Rattle.octets.specs.Word.{word, word-at, kind-of, value-of}
 use Rattle.octets.proofs.Laws.{and-true, same-equal, length-part}
-use Rattle.octets.proofs.Numbers.{bytes-number}
+use Rattle.octets.proofs.Numbers.{word-again}
 use Rattle.gcm.specs.Gcm.{encrypted, tag}
 use Rattle.gcm.proofs.Laws.{encrypted-twice, length-encrypted}
 use Rattle.checkpoint.specs.Checkpoint.{Form, Older, Longer, head-words, open-word, secret-word, restarts-word, words, words-length, head-length, head, associated, own-tag, sealed, sealed-length}
@@ -28,13 +27,6 @@ part-join xs i m k n e =
 front : (xs : List ℕ) (n : ℕ) → part xs 0 n ≡ take n xs
 unfolding part
 front xs n = refl
-
--- a word made of the kind and the value of one that stands in a string
-word-again : (xs : List ℕ) (i kind : ℕ) → i + 4 ≤ length xs → ((k : ℕ) → getD xs k 0 < 256) → kind-of (word-at xs i) ≡ kind
-    → word kind (value-of (word-at xs i)) ≡ part xs i 4
-unfolding word word-at kind-of value-of
-word-again xs i kind h b e =
-    ap (λ (k : ℕ). bytes 4 (k * 2 ^ 30 + number xs i 4 % 2 ^ 30)) (sym e) ∙ ap (bytes 4) (div-add-mod' (number xs i 4) (2 ^ 30)) ∙ bytes-number xs i 4 h b
 
 -- ---- a good head
 
@@ -65,7 +57,7 @@ words-from : List ℕ → ℕ → List (ℕ × ℕ) → List (ℕ × ℕ)
 words-from half i [] = []
 words-from half i (w ∷ more) = (w .0, value-at half i) ∷ words-from half (suc i) more
 
-words-again : (half : List ℕ) → ((k : ℕ) → getD half k 0 < 256) → (i n : ℕ) (ws : List (ℕ × ℕ)) → n ≡ length ws → 4 * (i + n) ≤ length half
+words-again : (half : List ℕ) → Bytes half → (i n : ℕ) (ws : List (ℕ × ℕ)) → n ≡ length ws → 4 * (i + n) ≤ length half
     → kinds-from half i ws ≡ true → words (words-from half i ws) ≡ part half (4 * i) (4 * n)
 unfolding words words-from kinds-from kind-at value-at part
 words-again half b i zero [] l h e = refl
@@ -137,7 +129,7 @@ module _ (limit : ℕ) (form : Form) (key nonce half : List ℕ) (good : good-he
 
   -- ---- its bytes
 
-  module _ (b : (i : ℕ) → getD half i 0 < 256) where
+  module _ (b : Bytes half) where
     -- the words of either form
     all-words : (f : Form) → head-words f (stored-packet f half) (value-at half (open-word f)) (value-at half (secret-word f)) (value-at half (restarts-word f))
         ≡ words-from half 0 (head-words f 0 0 0 0)

@@ -2,6 +2,7 @@
 pub mod Counter
 pub mod Blocks
 pub mod Laws
+pub mod Bytes
 pub mod Keys
 pub mod Checks
 pub mod Outcomes

@@ -8,7 +8,7 @@ use native.Mathlib.Omega.{arith}
 use lib.Bits.{bitXor, bitOr, xor-block, xor-zero-r, or-shifted}
 use lib.ListN.{getD}
 use lib.Pow.{high, low, field, shr-shr, mod-mod-pow, pow-mono}
-use Rattle.octets.specs.Octets.{number, bytes}
+use Rattle.octets.specs.Octets.{Bytes, number, bytes}
 use Rattle.octets.proofs.Numbers.{number-lt, number-split, number-left, number-right, length-bytes, number-bytes}
 use Rattle.ghash.specs.Steps.{words}
 use Rattle.ghash.specs.Ghash.{add-if, halved, R}
@@ -79,7 +79,7 @@ number-words a b ha hb =
     ∙ ap₂ words (number-left (bytes 8 a) (bytes 8 b) 8 (omega arith) ∙ number-bytes 8 a ha) (number-right (bytes 8 a) (bytes 8 b) 8 8 eight ∙ number-bytes 8 b hb)
 
 -- a word that a loop makes of its bytes: one byte more
-pub one-byte-more : (s : List ℕ) (at k w b : ℕ) → ((i : ℕ) → getD s i 0 < 256) → k < 8 → w ≡ number s at k → b ≡ getD s (at + k) 0
+pub one-byte-more : (s : List ℕ) (at k w b : ℕ) → Bytes s → k < 8 → w ≡ number s at k → b ≡ getD s (at + k) 0
     → bitOr (w * 256 % 2 ^ 64) b ≡ number s at (k + 1)
 unfolding number
 one-byte-more s at k w b h l hw hb =

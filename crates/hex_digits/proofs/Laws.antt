@@ -10,7 +10,7 @@ use lib.Dec.{ltb}
 use lib.ListN.{length, take, getD, set, length-append, take-append-drop}
 use lib.Seq.{take-suc, length-take-le}
 use borrow.Author.Tests.{ltb-true, ltb-false, le-leb, lt-leb}
-use Rattle.octets.specs.Octets.{put}
+use Rattle.octets.specs.Octets.{Bytes, put}
 use Rattle.octets.specs.Table.{table}
 use Rattle.octets.proofs.Laws.{and-true, and-assoc}
 use Rattle.octets.proofs.Lent.{set-on}
@@ -82,10 +82,6 @@ encoded-on d s out at i h l k r e eh el =
     ∙ ap (λ (w : List ℕ). set w (at + 2 * i + 1) l) (set-on d E at (at + 2 * i) h (omega arith) (omega arith))
     ∙ set-on d (E ++ (h ∷ [])) at (at + 2 * i + 1) l one (omega arith)
     ∙ ap (put d at) (append-assoc E (h ∷ []) (l ∷ []) ∙ sym more)
-
--- bytes are below 256
-abbrev pub Bytes : List ℕ → Type 0
-Bytes s = (i : ℕ) → getD s i 0 < 256
 
 pub encoded-digits : (s : List ℕ) → Bytes s → all-digits (encoded s) ≡ true
 unfolding encoded all-digits

@@ -12,15 +12,16 @@ use lib.ListN.{length, take, drop, getD, length-append, length-take, length-drop
 use lib.Seq.{take-add, take-all, take-at, drop-at, getD-at, getD-drop, getD-take, length-take-le}
 use borrow.Author.Tests.{eqb-true, eqb-false, eq-eqb, ltb-true, ltb-false, le-ltb, lt-ltb}
 use Rattle.octets.specs.Limits.{image-limit, data-per-line}
-use Rattle.octets.specs.Octets.{part, put, bytes}
+use Rattle.octets.specs.Octets.{Bytes, part, put, bytes}
 use Rattle.octets.specs.Table.{table}
 use Rattle.octets.proofs.Laws.{put-front}
+use Rattle.octets.proofs.Bytes.{bytes-append, bytes-part, bytes-bytes}
 use Rattle.octets.proofs.Lent.{put-on, over}
 use Rattle.octets.proofs.Tables.{is-table}
 use Rattle.stops.specs.Stops.{first-of}
 use Rattle.stops.proofs.Laws.{passes}
 use Rattle.hex_digits.specs.Digits.{digit-value, all-digits, pair, encoded}
-use Rattle.hex_digits.proofs.Laws.{Bytes, length-encoded, encoded-digits, pair-encoded}
+use Rattle.hex_digits.proofs.Laws.{length-encoded, encoded-digits, pair-encoded}
 use Rattle.hex_lines.specs.Format.{mark, line-feed, data-line, end-line, upper-line, boundary, checksum}
 use Rattle.hex_lines.specs.Line.{line-bytes, hex-line, byte-of, bytes-of, data-length, address, kind, data-bytes, upper-bits, shape-wrong, checksum-wrong}
 use Rattle.hex_lines.specs.Inner.{line-end, end-length, Begins}
@@ -35,11 +36,6 @@ use Rattle.intel_hex.proofs.TextLaws.{begun, stop-on, stored-on}
 use Rattle.intel_hex.proofs.ImportLaws.{after-data, after-upper, after-end, image-data, image-other, text-end, stored-end, import-done, stop-text}
 
 -- ---- a line as it was written, with a text behind it
-
-append-bytes : (s t : List ℕ) → Bytes s → Bytes t → Bytes (s ++ t)
-append-bytes [] t hs ht i = ht i
-append-bytes (x ∷ s) t hs ht zero = hs 0
-append-bytes (x ∷ s) t hs ht (suc i) = append-bytes s t (λ j. hs (suc j)) ht i
 
 one-byte : (x : ℕ) → x < 256 → Bytes (x ∷ [])
 one-byte x h zero = h
@@ -106,7 +102,7 @@ module _ (k a : ℕ) (s t : List ℕ) (l : Line k a s) where
 
   small-B : Bytes B
   unfolding B
-  small-B = append-bytes b (checksum b ∷ []) small-b (one-byte (checksum b) (mod-lt _ (lit< tt)))
+  small-B = bytes-append b (checksum b ∷ []) small-b (one-byte (checksum b) (mod-lt _ (lit< tt)))
 
   -- byte i of the line
   byte : (i : ℕ) → i < 5 + n → byte-of text i ≡ getD B i 0
@@ -218,19 +214,13 @@ step-on : {size : ℕ} {r r′ r″ : Reading} {image image′ image″ text t u
 step-on a b = record { judged = a .judged ∙ b .judged; stores = a .stores ∙ b .stores }
 
 -- a type 04 line sets the upper bits
-two-bytes : (x : ℕ) → Bytes (bytes 2 x)
-unfolding bytes
-two-bytes x zero = mod-lt (x / 2 ^ 8) (lit< tt)
-two-bytes x (suc zero) = mod-lt (x / 2 ^ 0) (lit< tt)
-two-bytes x (suc (suc i)) = lit< tt
-
 upper-step : (size u : ℕ) (r : Reading) (image t : List ℕ) → r .ended ≡ false → u < boundary
     → Step size r (record { upper = u; next = r .next; ended = r .ended }) image image (hex-line upper-line 0 (bytes 2 u) ++ t) t
 unfolding bytes
 upper-step size u r image t ended h =
     let s : List ℕ = bytes 2 u in
     let w : Whole upper-line 0 s t (hex-line upper-line 0 s ++ t) =
-    whole upper-line 0 s t (record { small = lit< tt; low = lit< tt; short = lit< tt; bytes-of = two-bytes u; shape = refl }) in
+    whole upper-line 0 s t (record { small = lit< tt; low = lit< tt; short = lit< tt; bytes-of = bytes-bytes 2 u; shape = refl }) in
     let S : List ℕ = hex-line upper-line 0 s ++ t in
     let bits : u ≡ upper-bits S =
     (let e : u ≡ u / 2 ^ 8 % 256 * 256 + u / 2 ^ 0 % 256 = omega arith in e) ∙ sym (ap (λ (x : List ℕ). getD x 0 0 * 256 + getD x 1 0) (w .data-is)) in
@@ -281,15 +271,6 @@ module _ (image : List ℕ) (small : Bytes image) where
   upper-stays zero h = absurd (h refl)
   upper-stays (suc k) h = omega arith
 
-  part-small : (i m : ℕ) → Bytes (part image i m)
-  unfolding part
-  part-small i m j = go (ltb j m) refl
-    where
-      go : (x : Bool) → ltb j m ≡ x → getD (take m (drop i image)) j 0 < 256
-      go true e = subst (λ (x : ℕ). x < 256) (sym (getD-take m (drop i image) j 0 (ltb-true j m e) ∙ getD-drop i image j 0)) (small (i + j))
-      go false e =
-          subst (λ (x : ℕ). x < 256) (sym (List·getD-eq-default (take m (drop i image)) 0 {n = j} (rw length-take (omega (arith, ltb-false j m e))))) (lit< tt)
-
   module _ (limit : length image ≤ image-limit) (other : List ℕ) where
     -- the image behind the first k data lines
     filled : ℕ → List ℕ
@@ -333,7 +314,7 @@ module _ (image : List ℕ) (small : Bytes image) where
         rw (le-ltb (length image) (upper k * boundary + a + length s) (omega arith), le-ltb boundary (a + length s) (omega arith), le-ltb (upper k * boundary + a) (min (place k) (length image)) (omega arith)) refl in
         subst (λ (i : List ℕ). Step (length image) r (reading (suc k)) (filled k) i (data-part image k ++ t) t) here
         (subst (λ (m : ℕ). Step (length image) r (record { upper = upper k; next = m; ended = false }) (filled k) (put (filled k) (upper k * boundary + a) s) (data-part image k ++ t) t) next
-        (data-step (length image) a r (filled k) s t refl (omega arith) (omega arith) (omega arith) (part-small (place k) data-per-line) placed))
+        (data-step (length image) a r (filled k) s t refl (omega arith) (omega arith) (omega arith) (bytes-part image (place k) data-per-line small) placed))
 
     block-step : (k : ℕ) (t : List ℕ) → place k < length image → Step (length image) (reading k) (reading (suc k)) (filled k) (filled (suc k)) (block image k ++ t) t
     unfolding block

@@ -9,6 +9,7 @@ use native.Mathlib.Omega.{arith}
 use borrow.Author.Tests.{eqb-true, eq-eqb, le-ltb, not-false}
 use lib.Dec.{eqb, ltb, lit<}
 use lib.ListN.{length, length-append, take, getD}
+use Rattle.octets.specs.Octets.{Bytes}
 use Rattle.octets.specs.Limits.{key-lengths, nonce-length, tag-length, packet-limit, part-limit, fram-limit}
 use Rattle.octets.specs.Word.{word-at}
 use Rattle.octets.proofs.Numbers.{length-word, number-lt}
@@ -51,17 +52,17 @@ passes-18 : (packet : ℕ) → packet ≤ packet-limit → packet-wrong Longer p
 unfolding packet-wrong
 passes-18 packet l = le-ltb packet-limit packet l
 
-word-small : (b : List ℕ) (i : ℕ) → ((k : ℕ) → getD b k 0 < 256) → word-at b i < 2 ^ 32
+word-small : (b : List ℕ) (i : ℕ) → Bytes b → word-at b i < 2 ^ 32
 unfolding word-at
 word-small b i h = number-lt b i 4 h
 
 -- those of a job that is read from bytes are words
-job-numbers-by : (b : List ℕ) → ((i : ℕ) → getD b i 0 < 256) → (none : Bool) → no-job-in b ≡ none → (job-in b .restarts < 2 ^ 32) × (job-in b .packet < 2 ^ 32)
+job-numbers-by : (b : List ℕ) → Bytes b → (none : Bool) → no-job-in b ≡ none → (job-in b .restarts < 2 ^ 32) × (job-in b .packet < 2 ^ 32)
 unfolding job-in no-job
 job-numbers-by b h true e = rw e (lit< tt, lit< tt)
 job-numbers-by b h false e = rw e (word-small b 56 h, word-small b 60 h)
 
-job-numbers : (b : List ℕ) → ((i : ℕ) → getD b i 0 < 256) → (job-in b .restarts < 2 ^ 32) × (job-in b .packet < 2 ^ 32)
+job-numbers : (b : List ℕ) → Bytes b → (job-in b .restarts < 2 ^ 32) × (job-in b .packet < 2 ^ 32)
 job-numbers b h = job-numbers-by b h (no-job-in b) refl
 
 -- ---- the job of a start
@@ -241,7 +242,7 @@ module _ (ring fram : List ℕ) where
   power-up-back a e = job-back _ (power-up-fits ring fram a e)
 
   -- a job buffer holds bytes
-  module _ (z : Sizes) (job staging : List ℕ) (b : (i : ℕ) → getD job i 0 < 256) (e : advance-stop this-firmware ring fram (advances-in z job staging) ≡ none) where
+  module _ (z : Sizes) (job staging : List ℕ) (b : Bytes job) (e : advance-stop this-firmware ring fram (advances-in z job staging) ≡ none) where
     both-fit : Fits (advance this-firmware ring fram (advances-in z job staging))
     both-fit = let l = job-lengths job in let k = job-numbers job b in advance-fits ring fram (advances-in z job staging) (l .0) (l .1) (k .0) (k .1) e
 

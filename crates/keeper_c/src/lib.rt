@@ -3,6 +3,7 @@
 mod calls;
 mod cipher;
 mod hex;
+mod new_units;
 mod shapes;
 mod starts;
 
@@ -13,6 +14,7 @@ pub use cipher::keeper_seal;
 pub use cipher::keeper_wipe;
 pub use hex::keeper_hex_export;
 pub use hex::keeper_hex_import;
+pub use new_units::keeper_factory_check;
 pub use shapes::keeper_ring_shape;
 pub use starts::keeper_power_up;
 pub use starts::keeper_save;

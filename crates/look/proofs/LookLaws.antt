@@ -8,7 +8,8 @@ use native.Mathlib.Omega.{arith}
 use lib.ListN.{length}
 use borrow.Author.Tests.{not-false}
 use Rattle.protocol.specs.Types.{this-firmware}
-use Rattle.octets.specs.Limits.{fram-limit, part-limit}
+use Rattle.octets.specs.Limits.{nonce-length, fram-limit, part-limit}
+use Rattle.octets.specs.Octets.{part}
 use Rattle.stops.specs.Stops.{first-of}
 use Rattle.stops.proofs.Laws.{tried, tried-first, first-append, passes}
 use Rattle.ring.specs.Ring.{Newest, ring-wrong, read-ring, newest-record, half-named}
@@ -23,9 +24,15 @@ use Rattle.checkpoint.specs.Half.{form-of, open-length, stored-restarts}
 use Rattle.memories.specs.Stages.{of-newest}
 use Rattle.protocol.specs.Operations.{newest-half, look-stop, look, look-by, open-stretch, stretch-by}
 use Rattle.look.specs.View.{view-looked, view-stretch, looks}
-use Rattle.look.specs.Stages.{look-buffers, look-half}
+use Rattle.look.specs.Stages.{look-buffers, of-half, look-half}
 use Rattle.look.specs.Seen.{Sees}
 use Rattle.look.specs.declared.types.Seen.{Seen}
+
+-- stops 11 and 12 of a half, which is number h of the image, said of the record that names it
+pub half-checked : (key rec fram half nonce : List ℕ) (h : ℕ) (o : Option ℕ) → h ≡ half-named rec → half ≡ half-at fram h → nonce ≡ part rec 0 nonce-length
+    → o ≡ first-of (of-half key nonce half) → o ≡ first-of (look-half key rec fram)
+unfolding part
+half-checked key rec fram half nonce h o x y n e = e ∙ (λ i. first-of (of-half key (n i) ((y ∙ ap (half-at fram) x) i)))
 
 module _ (pages slots : ℕ) (ring fram key : List ℕ) where
   abbrev read : Newest
@@ -58,7 +65,7 @@ module _ (pages slots : ℕ) (ring fram key : List ℕ) where
   unfolding tried
   ring-stop e f = on-ring e ∙ first-append ring-lines half-lines f
 
-  on-half : first-of (look-buffers pages slots ring fram key) ≡ none → first-of ring-lines ≡ none → stop ≡ first-of half-lines
+  pub on-half : first-of (look-buffers pages slots ring fram key) ≡ none → first-of ring-lines ≡ none → stop ≡ first-of half-lines
   on-half e f = on-ring e ∙ first-append ring-lines half-lines f ∙ tried-first half-lines
 
   -- what follows where the buffers pass

@@ -2,6 +2,7 @@
 mod looking;
 mod types;
 
+pub use looking::check_half;
 pub use looking::look;
 pub use looking::open_part;
 pub use looking::see;

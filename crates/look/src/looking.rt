@@ -35,7 +35,7 @@ ghost use Rattle.look.specs.Stages.{look-buffers, of-half, look-half};
 ghost use Rattle.look.specs.Seen.{Sees};
 
 // Stops 11 and 12 of a half, whose head was read.
-fn check_half(key: &[u8], nonce: &[u8], half: &[u8], head: Head) -> Check
+pub fn check_half(key: &[u8], nonce: &[u8], half: &[u8], head: Head) -> Check
     requires { ⌜ KeyLength (length (now key)) × (length (now nonce) ≡ nonce-length) × (head .good ≡ good-head part-limit (form-of (now half)) (now half)) × (head .start ≡ head-length (form-of (now half))) × (head .«open» ≡ open-length (form-of (now half)) (now half)) × (head .secret ≡ secret-length (form-of (now half)) (now half)) ⌝ }
     ensures { λ r. ⌜ check-number r ≡ first-of (of-half (now (key .entry)) (now (nonce .entry)) (now (half .entry))) ⌝ }
 {

@@ -3,7 +3,7 @@ use mathlib.Core.Path.{_≡_, refl, sym, ap, ap₂, _∙_}
 use mathlib.Core.Bool.{Bool, true, false}
 use mathlib.Core.List.{List, [], _∷_, _++_}
 use Prim.Native.Nat.{ℕ, zero, suc, _+_, _-_, _*_, _/_, _%_, _^_, _≤_, _<_}
-use native.Mathlib.Nat.{add-zero, zero-add, add-suc, add-assoc, add-mul, mul-assoc, mul-one, mod-one, mod-eq-of-lt, mod-lt, not-suc-le-zero, le-of-suc-le-suc}
+use native.Mathlib.Nat.{add-zero, zero-add, add-suc, add-assoc, add-mul, mul-assoc, mul-one, mod-one, mod-eq-of-lt, mod-lt, div-add-mod', not-suc-le-zero, le-of-suc-le-suc}
 use native.Mathlib.Numerals.{one-add}
 use native.Mathlib.Omega.{arith}
 use lib.Arith.{digits-lt, digits-div, digits-mod}
@@ -12,14 +12,15 @@ use lib.ListN.{length, getD, List·getD-append, List·getD-eq-default}
 use lib.Seq.{getD-append-add}
 use lib.Pow.{pow-add, mod-pow-add}
 use borrow.Author.Tests.{ltb-true, ltb-false}
-use Rattle.octets.specs.Octets.{part, number, bytes}
+use Rattle.octets.specs.Octets.{Bytes, part, number, bytes}
 use Rattle.octets.specs.Word.{word-at, kind-of, value-of, word}
 use Rattle.octets.proofs.Laws.{length-part, getD-part}
+use Rattle.octets.proofs.Bytes.{bytes-part, bytes-bytes}
 
 pow8-suc : (n : ℕ) → 2 ^ (8 * suc n) ≡ 2 ^ (8 * n) * 256
 pow8-suc n = ap (λ (x : ℕ). 2 ^ x) (let e : 8 * suc n ≡ 8 * n + 8 = omega arith in e) ∙ pow-add 2 (8 * n) 8
 
-pub number-lt : (s : List ℕ) (at n : ℕ) → ((i : ℕ) → getD s i 0 < 256) → number s at n < 2 ^ (8 * n)
+pub number-lt : (s : List ℕ) (at n : ℕ) → Bytes s → number s at n < 2 ^ (8 * n)
 unfolding number
 number-lt s at zero h = lit< tt
 number-lt s at (suc n) h = rw (pow8-suc n) (digits-lt (number-lt s at n h) (h (at + n)))
@@ -91,7 +92,7 @@ number-cons x xs n =
     ∙ ap₂ (λ (y z : ℕ). y * 2 ^ (8 * n) + z) (number-one (x ∷ xs) 0) (number-right (x ∷ []) xs 1 n refl)
 
 -- two strings of n bytes with one number are equal
-pub number-injective : (n : ℕ) (xs ys : List ℕ) → length xs ≡ n → length ys ≡ n → ((i : ℕ) → getD xs i 0 < 256) → ((i : ℕ) → getD ys i 0 < 256)
+pub number-injective : (n : ℕ) (xs ys : List ℕ) → length xs ≡ n → length ys ≡ n → Bytes xs → Bytes ys
     → number xs 0 n ≡ number ys 0 n → xs ≡ ys
 number-injective zero [] [] lx ly bx by e = refl
 number-injective zero (x ∷ xs) ys lx ly bx by e = absurd (omega arith)
@@ -107,24 +108,11 @@ number-injective (suc n) (x ∷ xs) (y ∷ ys) lx ly bx by e =
     let rest : xs ≡ ys = number-injective n xs ys (omega arith) (omega arith) (λ i. bx (suc i)) (λ i. by (suc i)) later in
     cc
 
-bytes-small : (n x i : ℕ) → getD (bytes n x) i 0 < 256
-unfolding bytes
-bytes-small zero x i = lit< tt
-bytes-small (suc n) x zero = mod-lt (x / 2 ^ (8 * n)) (lit< tt)
-bytes-small (suc n) x (suc i) = bytes-small n x i
-
 -- the bytes of the number that stands in a string
-pub bytes-number : (s : List ℕ) (at n : ℕ) → at + n ≤ length s → ((i : ℕ) → getD s i 0 < 256) → bytes n (number s at n) ≡ part s at n
+pub bytes-number : (s : List ℕ) (at n : ℕ) → at + n ≤ length s → Bytes s → bytes n (number s at n) ≡ part s at n
 bytes-number s at n h b =
-    number-injective n (bytes n (number s at n)) (part s at n) (length-bytes n (number s at n)) (length-part s at n h) (bytes-small n (number s at n)) small
+    number-injective n (bytes n (number s at n)) (part s at n) (length-bytes n (number s at n)) (length-part s at n h) (bytes-bytes n (number s at n)) (bytes-part s at n b)
     (number-bytes n (number s at n) (number-lt s at n b) ∙ sym (number-part s at n 0 n (omega arith) ∙ ap (λ (i : ℕ). number s i n) (add-zero at)))
-  where
-    small : (i : ℕ) → getD (part s at n) i 0 < 256
-    small i = go (ltb i n) refl
-      where
-        go : (t : Bool) → ltb i n ≡ t → getD (part s at n) i 0 < 256
-        go true e = rw (getD-part s at n i (ltb-true i n e)) (b (at + i))
-        go false e = rw (List·getD-eq-default (part s at n) 0 {n = i} (omega (arith, ltb-false i n e, length-part s at n h))) (lit< tt)
 
 -- ---- words
 
@@ -161,3 +149,9 @@ kind-is kind value h = digits-div kind h
 pub value-is : (kind value : ℕ) → value < 2 ^ 30 → value-of (kind * 2 ^ 30 + value) ≡ value
 unfolding value-of
 value-is kind value h = digits-mod kind h
+
+-- a word made of the kind and the value of one that stands in a string
+pub word-again : (s : List ℕ) (i kind : ℕ) → i + 4 ≤ length s → Bytes s → kind-of (word-at s i) ≡ kind → word kind (value-of (word-at s i)) ≡ part s i 4
+unfolding word word-at kind-of value-of
+word-again s i kind h b e =
+    ap (λ (k : ℕ). bytes 4 (k * 2 ^ 30 + number s i 4 % 2 ^ 30)) (sym e) ∙ ap (bytes 4) (div-add-mod' (number s i 4) (2 ^ 30)) ∙ bytes-number s i 4 h b

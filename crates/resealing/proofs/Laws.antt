@@ -9,7 +9,7 @@ use borrow.Author.Tests.{eqb-false, ltb-false, not-false}
 use native.Mathlib.Omega.{arith}
 use lib.ListN.{length, getD}
 use Rattle.octets.specs.Limits.{part-limit, restart-limit, tag-length}
-use Rattle.octets.specs.Octets.{part, put}
+use Rattle.octets.specs.Octets.{Bytes, part, put}
 use Rattle.octets.specs.Word.{value-of}
 use Rattle.octets.proofs.Laws.{part-put-same}
 use Rattle.stops.specs.Stops.{first-of, then-stop}
@@ -34,7 +34,7 @@ module _ (key latest half nonce : List ℕ) (good : good-head part-limit (form-o
       ap (λ (w : List ℕ). part w 0 n) f
       ∙ part-put-same state 0 S (omega (arith, length-restored, head-facts part-limit (form-of half) half good .secret-small)) n (length-restored ∙ sym e)
 
-  pub reseals : (t staging staging′ state state′ open-part secret previous : List ℕ) (d k m n r : ℕ) → ((i : ℕ) → getD half i 0 < 256) → good-tag (form-of half) key latest half ≡ true
+  pub reseals : (t staging staging′ state state′ open-part secret previous : List ℕ) (d k m n r : ℕ) → Bytes half → good-tag (form-of half) key latest half ≡ true
       → d ≡ head-length (form-of half) → k ≡ stored-packet (form-of half) half → m ≡ open-length (form-of half) half → n ≡ secret-length (form-of half) half → r ≡ stored-restarts (form-of half) half → part-limit ≤ length state
       → state′ ≡ put state 0 (stored (form-of half) key latest half .secret) → open-part ≡ stored-open (form-of half) half → secret ≡ part state′ 0 n → previous ≡ part half (d + m + n) tag-length
       → (let c = checkpoint-of k open-part secret (r + 1) previous nonce in (t ≡ own-tag key c) × (staging′ ≡ put staging 0 (sealed key c)))

@@ -9,6 +9,7 @@ pub mod RingLaws
 pub mod FoundLaws
 pub mod Exactly
 pub mod NewestLaws
+pub mod FirstLaws
 pub mod StoreLaws
 pub mod ViewLaws
 mod StepLaws

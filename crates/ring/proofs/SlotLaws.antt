@@ -17,7 +17,7 @@ use Rattle.ring.proofs.RecordLaws.{record-used}
 abbrev pub slot-of-page : List ℕ → ℕ → List ℕ
 slot-of-page page s = part page (slot-length * s) slot-length
 
-later : (page : List ℕ) (k s i : ℕ) → i ≡ k + s → slot-of-page (drop (slot-length * k) page) s ≡ slot-of-page page i
+pub later : (page : List ℕ) (k s i : ℕ) → i ≡ k + s → slot-of-page (drop (slot-length * k) page) s ≡ slot-of-page page i
 later page k s i e =
     let at : slot-length * k + slot-length * s ≡ slot-length * i = omega arith in
     part-drop page (slot-length * k) (slot-length * s) slot-length ∙ ap (λ (j : ℕ). part page j slot-length) at

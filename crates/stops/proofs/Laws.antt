@@ -10,7 +10,7 @@ use lib.ListN.{getD}
 use Rattle.stops.specs.Stops.{first-of, then-stop}
 use Rattle.stops.specs.View.{stop-number}
 use Rattle.stops.specs.declared.Stop.{Stop}
-use Rattle.stops.specs.declared.Stop.the-variants.{RingSize, FramSize, KeyNonceTagSize, BufferSize, RingInUse, RingBlank, RingUnreadable, StaleSession, PagePending, NonceUsed, BadHead, TagDiffers, RestartLimit, BadJob, BadLine, BadChecksum, DataMisplaced, PacketTooLarge, BadTrace, PastLastShape}
+use Rattle.stops.specs.declared.Stop.the-variants.{RingSize, FramSize, KeyNonceTagSize, BufferSize, RingInUse, RingBlank, RingUnreadable, StaleSession, PagePending, NonceUsed, BadHead, TagDiffers, RestartLimit, BadJob, BadLine, BadChecksum, DataMisplaced, PacketTooLarge, NotFirstSave, BadTrace, PastLastShape}
 
 -- the conditions of a list tried in turn, from what was found before them
 unfoldable pub tried : Option ℕ → List (ℕ × Bool) → Option ℕ
@@ -100,11 +100,11 @@ pub or-false : (a : Bool) → a || false ≡ a
 or-false true = refl
 or-false false = refl
 
--- the stops in the order of their numbers, from 1 on; 19 and 21 to 25 are none's, and the first stands in their places: no two have one number
+-- the stops in the order of their numbers, from 1 on; 21 to 25 are none's, and the first stands in their places: no two have one number
 stops : List Stop
 stops =
     RingSize ∷ FramSize ∷ KeyNonceTagSize ∷ BufferSize ∷ RingInUse ∷ RingBlank ∷ RingUnreadable ∷ StaleSession ∷ PagePending ∷ NonceUsed
-    ∷ BadHead ∷ TagDiffers ∷ RestartLimit ∷ BadJob ∷ BadLine ∷ BadChecksum ∷ DataMisplaced ∷ PacketTooLarge ∷ RingSize ∷ BadTrace
+    ∷ BadHead ∷ TagDiffers ∷ RestartLimit ∷ BadJob ∷ BadLine ∷ BadChecksum ∷ DataMisplaced ∷ PacketTooLarge ∷ NotFirstSave ∷ BadTrace
     ∷ RingSize ∷ RingSize ∷ RingSize ∷ RingSize ∷ RingSize ∷ PastLastShape ∷ []
 
 stop-of : ℕ → Stop
@@ -130,6 +130,7 @@ back BadLine = refl
 back BadChecksum = refl
 back DataMisplaced = refl
 back PacketTooLarge = refl
+back NotFirstSave = refl
 back BadTrace = refl
 back PastLastShape = refl
 
@@ -156,5 +157,6 @@ stop-number-short BadLine = lit< tt
 stop-number-short BadChecksum = lit< tt
 stop-number-short DataMisplaced = lit< tt
 stop-number-short PacketTooLarge = lit< tt
+stop-number-short NotFirstSave = lit< tt
 stop-number-short BadTrace = lit< tt
 stop-number-short PastLastShape = lit< tt

@@ -2,7 +2,7 @@
 use Prim.Native.Nat.{ℕ}
 use mathlib.Core.Option.{Option, none, some}
 use Rattle.stops.specs.declared.Stop.{Stop}
-use Rattle.stops.specs.declared.Stop.the-variants.{RingSize, FramSize, KeyNonceTagSize, BufferSize, RingInUse, RingBlank, RingUnreadable, StaleSession, PagePending, NonceUsed, BadHead, TagDiffers, RestartLimit, BadJob, BadLine, BadChecksum, DataMisplaced, PacketTooLarge, BadTrace, PastLastShape}
+use Rattle.stops.specs.declared.Stop.the-variants.{RingSize, FramSize, KeyNonceTagSize, BufferSize, RingInUse, RingBlank, RingUnreadable, StaleSession, PagePending, NonceUsed, BadHead, TagDiffers, RestartLimit, BadJob, BadLine, BadChecksum, DataMisplaced, PacketTooLarge, NotFirstSave, BadTrace, PastLastShape}
 use Rattle.stops.specs.declared.Check.{Check}
 use Rattle.stops.specs.declared.Check.the-variants.{Pass, Stopped}
 
@@ -25,6 +25,7 @@ stop-number BadLine = 15
 stop-number BadChecksum = 16
 stop-number DataMisplaced = 17
 stop-number PacketTooLarge = 18
+stop-number NotFirstSave = 19
 stop-number BadTrace = 20
 stop-number PastLastShape = 26
 

@@ -23,6 +23,7 @@ pub enum Stop {
     BadChecksum,
     DataMisplaced,
     PacketTooLarge,
+    NotFirstSave,
     BadTrace,
     PastLastShape,
 }
@@ -56,6 +57,7 @@ pub fn stop_number(stop: Stop) -> u32
         Stop::BadChecksum => 16,
         Stop::DataMisplaced => 17,
         Stop::PacketTooLarge => 18,
+        Stop::NotFirstSave => 19,
         Stop::BadTrace => 20,
         Stop::PastLastShape => 26,
     }

@@ -56,6 +56,8 @@ extern "C" {
         written: *mut usize) -> u32;
     fn keeper_hex_import(text: *const u8, text_len: usize, image: *mut u8, image_len: usize) -> u32;
     fn keeper_ring_shape(pages: usize, slots: usize, number: usize, ring: *mut u8, ring_len: usize) -> u32;
+    fn keeper_factory_check(pages: usize, slots: usize, ring: *const u8, ring_len: usize,
+        fram: *const u8, fram_len: usize, key: *const u8, key_len: usize) -> u32;
     fn keeper_wipe(buffer: *mut u8, buffer_len: usize);
 }
 
@@ -149,6 +151,15 @@ pub fn hex_import(text: &[u8], image: &mut [u8]) -> u32 {
 pub fn ring_shape(sizes: Sizes, number: usize, ring: &mut [u8]) -> u32 {
     // Sound: see the top of this file.
     unsafe { keeper_ring_shape(sizes.pages, sizes.slots, number, ring.as_mut_ptr(), ring.len()) }
+}
+
+/// Checks a ring and a FRAM image that should be what a first save leaves.
+pub fn factory_check(sizes: Sizes, ring: &[u8], fram: &[u8], key: &[u8]) -> u32 {
+    // Sound: see the top of this file.
+    unsafe {
+        keeper_factory_check(sizes.pages, sizes.slots, ring.as_ptr(), ring.len(), fram.as_ptr(), fram.len(),
+            key.as_ptr(), key.len())
+    }
 }
 
 /// Zeroes a buffer of any length.

@@ -27,7 +27,8 @@
 //! time, advanced with the staging buffer as its start left it, and nobody else writing to the memories.
 //!
 //! [`hex_export`] and [`hex_import`] carry an image of either memory to a programmer and back, as Intel HEX;
-//! [`ring_shape`] makes every shape of a readable ring of a small size, for trying units at the bench.
+//! [`ring_shape`] makes every shape of a readable ring of a small size, for trying units at the bench; [`factory_check`]
+//! accepts exactly the memories that a first save leaves, for checking what an assembly house programs.
 //!
 //! The code behind these calls is proved. This crate hands slices on as they are, and has no checks of its own.
 //!
@@ -409,6 +410,47 @@ pub fn hex_import(text: &[u8], image: &mut [u8]) -> Result<(), Stop> {
 /// ```
 pub fn ring_shape(sizes: Sizes, number: usize, ring: &mut [u8]) -> Result<(), Stop> {
     done(calls::ring_shape(sizes, number, ring))
+}
+
+/// Checks what an assembly house programs: accepts exactly the memories that a [`save`] with a starting tag leaves on a
+/// blank ring, advanced to its end, for some parts, nonce, packet number and starting tag.
+///
+/// The ring must be that save's to the byte, and so must half A of the FRAM in the checkpoint's length; all other bytes of
+/// the FRAM are free. A unit so programmed starts by a [`power_up`].
+///
+/// # Errors
+///
+/// [`Stop::RingSize`], [`Stop::FramSize`], [`Stop::KeyNonceTagSize`], [`Stop::RingBlank`], [`Stop::RingUnreadable`],
+/// [`Stop::BadHead`] and [`Stop::TagDiffers`] as in a [`look`], then [`Stop::NotFirstSave`].
+///
+/// # A unit before and after its first save
+///
+/// ```
+/// use godwitshelf::*;
+///
+/// # fn main() -> Result<(), Stop> {
+/// let sizes = Sizes { pages: 3, slots: 2 };
+/// let mut ring = [0xFF; 16 * 3 * 2];
+/// let mut fram = [0; 256];
+/// let mut staging = [0; 128];
+/// let key = [7; 16];
+/// assert_eq!(factory_check(sizes, &ring, &fram, &key), Err(Stop::RingBlank));
+///
+/// let first = Follows::StartingTag(&[9; 16]);
+/// let mut job = save(sizes, &ring, &fram, &key, &[1; 12], first, 0, b"volume 3", b"timer 00", &mut staging)?;
+/// while advance(sizes, &mut ring, &mut fram, &staging, &mut job)? == Progress::GoingOn {}
+/// assert_eq!(factory_check(sizes, &ring, &fram, &key), Ok(()));
+///
+/// // The checkpoint is 64 bytes; those behind it are free.
+/// fram[64] ^= 1;
+/// assert_eq!(factory_check(sizes, &ring, &fram, &key), Ok(()));
+/// fram[63] ^= 1;
+/// assert_eq!(factory_check(sizes, &ring, &fram, &key), Err(Stop::TagDiffers));
+/// # Ok(())
+/// # }
+/// ```
+pub fn factory_check(sizes: Sizes, ring: &[u8], fram: &[u8], key: &[u8]) -> Result<(), Stop> {
+    done(calls::factory_check(sizes, ring, fram, key))
 }
 
 /// Zeroes a buffer of any length.

@@ -47,13 +47,16 @@ pub enum Stop {
     DataMisplaced,
     /// 18: the packet number is above 2^30 − 1.
     PacketTooLarge,
+    /// 19: the newest record is not at page 0, slot 0 or names half B, a page is pending, restarts are not 0, or the head is
+    /// the older one.
+    NotFirstSave,
     /// 26: the number is past the last ring of that size.
     PastLastShape = 26,
 }
 
 impl Stop {
     /// Every stop, by its number.
-    pub const ALL: [Stop; 19] = [
+    pub const ALL: [Stop; 20] = [
         Stop::RingSize,
         Stop::FramSize,
         Stop::KeyNonceTagSize,
@@ -72,10 +75,11 @@ impl Stop {
         Stop::BadChecksum,
         Stop::DataMisplaced,
         Stop::PacketTooLarge,
+        Stop::NotFirstSave,
         Stop::PastLastShape,
     ];
 
-    /// The stop's number, 1 to 18 or 26.
+    /// The stop's number, 1 to 19 or 26.
     pub const fn number(self) -> u32 {
         self as u32
     }
@@ -119,6 +123,9 @@ impl Stop {
                 "data outside the image, past a 64 KiB boundary within a line, or not above the data before"
             }
             Stop::PacketTooLarge => "packet number too large",
+            Stop::NotFirstSave => {
+                "newest not page 0, slot 0, half A, a page pending, restarts not 0, or the older head"
+            }
             Stop::PastLastShape => "number past the last ring of that size",
         }
     }
@@ -137,10 +144,10 @@ mod tests {
     use super::*;
 
     #[test]
-    fn numbers_are_1_to_18_and_26_and_lead_back() {
+    fn numbers_are_1_to_19_and_26_and_lead_back() {
         for number in 0..300 {
             let stop = Stop::from_number(number);
-            assert_eq!(stop.map(Stop::number), matches!(number, 1..=18 | 26).then_some(number));
+            assert_eq!(stop.map(Stop::number), matches!(number, 1..=19 | 26).then_some(number));
         }
     }
 

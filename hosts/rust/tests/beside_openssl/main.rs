@@ -1,6 +1,6 @@
 //! The keeper beside OpenSSL: every answer and every lent byte is compared with what document 01 and document 02's A.2 and
-//! A.5 to A.9 say, worked out here anew over OpenSSL's AES-128-GCM and AES-256-GCM; of A.4's and A.9's programs, what they
-//! print. Nothing in this folder uses the keeper to say what the keeper should do. The older firmwares, which a unit may
+//! A.5 to A.10 say, worked out here anew over OpenSSL's AES-128-GCM and AES-256-GCM; of A.4's, A.9's and A.10's programs,
+//! what they print. Nothing in this folder uses the keeper to say what the keeper should do. The older firmwares, which a unit may
 //! have had before, are worked out here likewise, from the documents up to them.
 
 /// Makes two tests of each of these functions: with keys of 16 bytes, and of 32 (document 02, A.8).
@@ -20,6 +20,7 @@ mod by_hand;
 mod checkpoints;
 mod compare;
 mod cuts;
+mod factory;
 mod firmware;
 mod histories;
 mod history;

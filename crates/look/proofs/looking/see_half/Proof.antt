@@ -20,18 +20,14 @@ use Rattle.protocol.specs.Operations.{look-by, stretch-by}
 use Rattle.look.specs.declared.types.Looked.the-variants.{Restarts}
 use Rattle.look.specs.Stages.{of-half, look-half}
 use Rattle.look.specs.Seen.{Sees}
+use Rattle.look.proofs.LookLaws.{half-checked}
 use Rattle.look.proofs.looking.see_half.Statement.{statement}
 use Rattle.look.proofs.looking.see_half.Tie as tie
 
 -- said of the half that the record names
-module _ (key newest fram : List ℕ) (h : ℕ) (x : h ≡ half-named newest) (half : List ℕ) (y : half ≡ half-at fram h) where
+module _ (newest fram : List ℕ) (h : ℕ) (x : h ≡ half-named newest) (half : List ℕ) (y : half ≡ half-at fram h) where
   half-is : half ≡ half-at fram (half-named newest)
   half-is = y ∙ ap (half-at fram) x
-
-  checked : (o : Option ℕ) (nonce : List ℕ) → nonce ≡ part newest 0 nonce-length → o ≡ first-of (of-half key nonce half)
-      → o ≡ first-of (look-half key newest fram)
-  unfolding part
-  checked o nonce n e = e ∙ (λ i. first-of (of-half key (n i) (half-is i)))
 
   found : {o : Option ℕ} (n at m : ℕ) → none ≡ o → n ≡ stored-restarts (form-of half) half → at ≡ head-length (form-of half) → m ≡ open-length (form-of half) half
       → Sees (record { looked = Restarts n; offset = h * half-length fram + at; length = m }) o fram (half-named newest)
@@ -45,7 +41,7 @@ module _ (key newest fram : List ℕ) (h : ℕ) (x : h ≡ half-named newest) (h
 half-check : (c : tie.After-check-half) → let a = c .before .before .before .before .before .before .before .before .args in check-number (c .check-half .result) ≡ first-of (look-half (a .key .now) (a .«record» .now) (a .fram .now))
 half-check c =
     let a = c .before .before .before .before .before .before .before .before .args in
-    checked (a .key .now) (a .«record» .now) (a .fram .now) _ (c .before .before .before .before .half-named .ensures) _ (c .before .before .before .half-at .ensures .0) _ _ (c .before .part .ensures .0) (c .check-half .ensures)
+    half-checked (a .key .now) (a .«record» .now) (a .fram .now) _ _ _ _ (c .before .before .before .before .half-named .ensures) (c .before .before .before .half-at .ensures .0) (c .before .part .ensures .0) (c .check-half .ensures)
 
 within : (c : tie.After-half-named) → let fram = c .before .before .before .before .args .fram .now in c .half-named .result * half-length fram + half-length fram ≤ length fram
 within c =
@@ -83,7 +79,7 @@ unfolding half-length
 returns-2 c =
     let a = c .before .before .before .before .before .before .before .before .before .before .before .args in
     let head = c .before .before .before .before .before .read-head .ensures in
-    found (a .key .now) (a .«record» .now) (a .fram .now) _ (c .before .before .before .before .before .before .before .half-named .ensures) _ (c .before .before .before .before .before .before .half-at .ensures .0) _ _ _ (sym (ap check-number (c .before .enum-told .given .1)) ∙ half-check (c .before .before .before)) (head .5) (head .1) (head .3)
+    found (a .«record» .now) (a .fram .now) _ (c .before .before .before .before .before .before .before .half-named .ensures) _ (c .before .before .before .before .before .before .half-at .ensures .0) _ _ _ (sym (ap check-number (c .before .enum-told .given .1)) ∙ half-check (c .before .before .before)) (head .5) (head .1) (head .3)
 
 pub see-half-spec : {M : Type 1} → statement M
 see-half-spec =

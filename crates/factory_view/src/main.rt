@@ -1,0 +1,129 @@
+// Checks what the assembly house programs (document 02, A.10). The arguments are the ring's pages and slots and the names of three files with
+// the bytes of the ring, of the FRAM and of the key. It writes `accepted`, or `refused` with the stop's number. Where a file cannot be read,
+// nothing is checked, and standard error has the file's name and why.
+use bench_io::complain;
+use bench_io::number_argument;
+use bench_io::write_out;
+use factory::factory_check;
+use libc::STDOUT_FILENO;
+use octets::limits::FRAM_LIMIT;
+use octets::limits::LONG_KEY;
+use octets::limits::PAGES_LIMIT;
+use octets::limits::SLOT_LENGTH;
+use octets::limits::SLOTS_LIMIT;
+use stops::Check;
+use stops::stop_number;
+ghost use Rattle.io.specs.Counts.{Counts};
+
+// One byte more than each may have, so that a longer file is seen to be longer.
+const RING_ROOM: usize = SLOT_LENGTH * PAGES_LIMIT * SLOTS_LIMIT + 1;
+
+const FRAM_ROOM: usize = FRAM_LIMIT + 1;
+
+const KEY_ROOM: usize = LONG_KEY + 1;
+
+// Whether a file was read, and how many of its bytes are in the buffer: all, or as many as there is room for.
+struct Loaded {
+    is_read: bool,
+    length: usize,
+}
+
+const NOT_READ: Loaded = Loaded {
+    is_read: false,
+    length: 0,
+};
+
+// Reads an open file, by name `path`. Behind its last byte another read finds the end, and not an error.
+fn read_open(file: i32, path: &[u8], buffer: &mut [u8]) -> Loaded
+    ensures { λ r. ⌜ Counts (r .length) (now (buffer .exit)) ⌝ }
+{
+    let length = io::read_full(file, buffer);
+    let mut byte = [0u8; 1];
+    let more = libc::read(file, &mut byte);
+    if more < 0 {
+        os::fail(path);
+        return NOT_READ;
+    }
+    if (more > 0) & (length < buffer.len()) {
+        complain(path);
+        complain(b": could not be read whole\n");
+        return NOT_READ;
+    }
+    Loaded {
+        is_read: true,
+        length,
+    }
+}
+
+// Reads the file that argument i names.
+fn load(i: usize, buffer: &mut [u8]) -> Loaded
+    ensures { λ r. ⌜ Counts (r .length) (now (buffer .exit)) ⌝ }
+{
+    let mut path = io::buffer();
+    let n = os::arg(i, &mut path);
+    if os::errno() != 0 {
+        os::fail(b"the name of a file");
+        return NOT_READ;
+    }
+    let file = os::open_read(&path[..n]);
+    if file < 0 {
+        os::fail(&path[..n]);
+        return NOT_READ;
+    }
+    let loaded = read_open(file, &path[..n], buffer);
+    libc::close(file);
+    loaded
+}
+
+// Writes what the check says.
+fn say(check: Check) {
+    match check {
+        Check::Pass => write_out(b"accepted\n"),
+        Check::Stopped(stop) => {
+            write_out(b"refused ");
+            io::print_decimal(STDOUT_FILENO, stop_number(stop) as u64);
+            write_out(b"\n");
+        }
+    }
+}
+
+// The whole run, in a buffer for each file.
+fn run(ring: &mut [u8], fram: &mut [u8], key: &mut [u8]) {
+    let pages = number_argument(1, PAGES_LIMIT);
+    let slots = number_argument(2, SLOTS_LIMIT);
+    if !pages.is_number | !slots.is_number | (os::arg_count() != 6) {
+        complain(
+            b"usage: factory_view PAGES SLOTS RING FRAM KEY, the last three being names of files\n",
+        );
+        return;
+    }
+    let r = load(3, ring);
+    if !r.is_read {
+        return;
+    }
+    let f = load(4, fram);
+    if !f.is_read {
+        return;
+    }
+    let k = load(5, key);
+    if !k.is_read {
+        return;
+    }
+    let r_length = r.length;
+    let f_length = f.length;
+    let k_length = k.length;
+    say(factory_check(
+        pages.value,
+        slots.value,
+        &ring[..r_length],
+        &fram[..f_length],
+        &key[..k_length],
+    ));
+}
+
+fn main() {
+    let mut ring = [0u8; RING_ROOM];
+    let mut fram = [0u8; FRAM_ROOM];
+    let mut key = [0u8; KEY_ROOM];
+    run(&mut ring, &mut fram, &mut key);
+}
