@@ -1,4 +1,4 @@
-/* A first save as an assembly house could make it, checked before and after, and with each kind of damage. A line has the answer of each. */
+/* Our own first save, checked before, after, and with single bytes changed. A line has the answer of each. */
 #include "keeper.h"
 
 #include <stdio.h>
@@ -17,7 +17,7 @@ static uint32_t checked(void)
 static int first_save(void)
 {
     static const uint8_t nonce[KEEPER_NONCE_SIZE] = {1}, starting_tag[KEEPER_TAG_SIZE] = {9};
-    static const uint8_t volume[8] = "volume 3", timer[4] = "0:00";
+    static const uint8_t volume[8] = {'v', 'o', 'l', 'u', 'm', 'e', ' ', '3'}, timer[4] = {'0', ':', '0', '0'};
     uint8_t job[KEEPER_JOB_SIZE], session[KEEPER_SESSION_SIZE];
     uint32_t answer = keeper_save(PAGES, SLOTS, ring, sizeof ring, fram, sizeof fram, key, sizeof key, nonce, sizeof nonce,
                                   starting_tag, sizeof starting_tag, 0, volume, sizeof volume, timer, sizeof timer,
@@ -54,6 +54,7 @@ int main(void)
     printf("a wrong head word: %u\n", (unsigned)damaged(&fram[4], 0));
     printf("a byte in the last page: %u\n", (unsigned)damaged(&ring[sizeof ring - 1], 0));
     printf("a wrong place word: %u\n", (unsigned)damaged(&ring[KEEPER_NONCE_SIZE], 0));
-    printf("half B named: %u\n", (unsigned)damaged(&ring[KEEPER_SLOT_SIZE - 1], 1));
+    memcpy(fram + FRAM_SIZE / 2, fram, CHECKPOINT);
+    printf("half B named, with the same checkpoint: %u\n", (unsigned)damaged(&ring[KEEPER_SLOT_SIZE - 1], 1));
     return 0;
 }

@@ -223,8 +223,9 @@ uint32_t keeper_ring_shape(size_t pages, size_t slots, size_t number, uint8_t *r
 #define KEEPER_RING_SHAPES(pages, slots) (1 + (pages) * (slots) + (pages))
 
 /* Checks what an assembly house programs: a new unit's ring and FRAM. Answers 0 exactly if they are what keeper_save with a starting tag
- * leaves on a blank ring, advanced to its end, for some parts, nonce, packet number and starting tag: that ring, and in the checkpoint's length
- * of half A those bytes. All other bytes of the FRAM are free. A unit so programmed starts by a power-up.
+ * leaves on a blank ring, advanced to its end, with this key and these sizes, for some parts, nonce, packet number and starting tag: that ring,
+ * and in the checkpoint's length of half A those bytes. All other bytes of the FRAM are free. A unit so programmed starts by a power-up.
+ * An answer of 0 does not show that a unit is unused: a later save leaves such memories too, where the ring has come around.
  * Stops: 1 to 3, 6, 7, 11, 12, 19. Cost: one reading of the ring; the checkpoint is hashed once.
  */
 uint32_t keeper_factory_check(size_t pages, size_t slots, const uint8_t *ring, size_t ring_len,

@@ -273,6 +273,11 @@ static void first_save(void)
     advances(KEEPER_SAVED);
 }
 
+static void factory_check(void)
+{
+    need(answer(keeper_factory_check(PAGES, SLOTS, ring, RING, fram, sizeof fram, key, key_len)) == KEEPER_DONE, "refused");
+}
+
 static void save(void)
 {
     nonce[0]++;
@@ -347,6 +352,7 @@ static const struct run pieces[] = {
     {"constant_time_same", comparisons, NOTHING},
 }, calls[] = {
     {"keeper_save with a starting tag", first_save, NOTHING},
+    {"keeper_factory_check", factory_check, ONE_JUMP},
     {"keeper_save with a session", save, NOTHING},
     {"keeper_look", look, ONE_JUMP},
     {"keeper_power_up", power_up, ONE_JUMP},

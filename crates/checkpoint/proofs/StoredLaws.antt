@@ -1,15 +1,15 @@
 -- A half with a good head and tag begins with the checkpoint that it reads as, sealed. Assumes nothing.
-use Prim.Native.Nat.{ℕ, zero, suc, _+_, _*_, _/_, _%_, _^_, _≤_, _<_}
+use Prim.Native.Nat.{ℕ, zero, suc, _+_, _*_, _/_, _≤_}
 use mathlib.Core.Path.{_≡_, refl, sym, ap, ap₂, _∙_}
 use mathlib.Core.Bool.{true}
 use mathlib.Core.List.{List, [], _∷_, _++_}
 use native.Mathlib.Omega.{arith}
-use lib.ListN.{length, take, drop, getD, take-append-drop}
+use lib.ListN.{length, take, drop, take-append-drop}
 use lib.Seq.{take-add, drop-drop}
 use borrow.Author.Tests.{eqb-true, leb-true}
 use Rattle.octets.specs.Limits.{restart-limit, packet-limit, tag-length}
 use Rattle.octets.specs.Octets.{Bytes, part}
-use Rattle.octets.specs.Word.{word, word-at, kind-of, value-of}
+use Rattle.octets.specs.Word.{value-of}
 use Rattle.octets.proofs.Laws.{and-true, same-equal, length-part}
 use Rattle.octets.proofs.Numbers.{word-again}
 use Rattle.gcm.specs.Gcm.{encrypted, tag}

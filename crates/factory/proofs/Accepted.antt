@@ -1,7 +1,7 @@
 -- Memories are accepted exactly if they hold a first save's checkpoint. Assumes nothing.
 use Prim.Native.Nat.{ℕ, _+_, _*_}
 use mathlib.Core.Path.{_≡_, refl, sym, ap, subst, _∙_}
-use mathlib.Core.Bool.{Bool, true, false, not, cond, true≢false, _||_}
+use mathlib.Core.Bool.{Bool, true, false, not, true≢false}
 use mathlib.Core.Option.{Option, none, some}
 use mathlib.Core.List.{List, _++_}
 use native.Mathlib.Omega.{arith}
@@ -16,7 +16,7 @@ use Rattle.stops.specs.Stops.{first-of, then-stop}
 use Rattle.stops.proofs.Laws.{passes, neither}
 use Rattle.gcm.specs.Gcm.{encrypted}
 use Rattle.gcm.proofs.Bytes.{encrypted-bytes}
-use Rattle.ring.specs.Ring.{Newest, Blank, Unreadable, At, AtPending, ring-wrong, slot-at, half-named, record-of, read-ring, is-record, is-blank, is-unreadable, is-pending, newest-page, newest-slot, newest-record}
+use Rattle.ring.specs.Ring.{Newest, Blank, Unreadable, At, AtPending, ring-wrong, slot-at, half-named, record-of, is-record, is-blank, is-unreadable, is-pending, newest-page, newest-slot, newest-record}
 use Rattle.ring.proofs.SizeLaws.{sized}
 use Rattle.ring.proofs.PageLaws.{length-slot}
 use Rattle.ring.proofs.RecordLaws.{half-named-of}
@@ -33,12 +33,12 @@ use Rattle.protocol.specs.Calls.{Setup}
 use Rattle.protocol.specs.Operations.{key-wrong, newest-in, newest-half, look-stop}
 use Rattle.protocol.specs.Recovery.{looks}
 use Rattle.factory.specs.Factory.{is-older, not-first, factory-stop}
-use Rattle.factory.specs.Exactly.{First, OfBytes, Memories}
+use Rattle.factory.specs.Exactly.{FirstArguments, OfBytes, AllBytes}
 use Rattle.factory.proofs.Programmed.{checkpoint-from, Programmed, nonce-is}
 
 -- ---- memories that hold one are accepted
 
-module _ {u : Setup} {ring fram : List ℕ} {f : First} (p : Programmed u ring fram f) where
+module _ {u : Setup} {ring fram : List ℕ} {f : FirstArguments} (p : Programmed u ring fram f) where
   abbrev c : Checkpoint
   c = checkpoint-from f
 
@@ -121,7 +121,7 @@ at-first (At page slot) b r w p s = λ i. At (p i) (s i)
 at-first (AtPending page pending) b r w p s = absurd (true≢false w)
 
 -- the first save that half A of these memories holds
-abbrev pub held : Setup → (ring fram : List ℕ) → First
+abbrev pub held : Setup → (ring fram : List ℕ) → FirstArguments
 held u ring fram =
     let half = half-at fram 0 in
     let nonce = take nonce-length (slot-at ring (u .sizes .slots) 0 0) in
@@ -133,7 +133,7 @@ held u ring fram =
       starting-tag = stored-previous Longer half;
     }
 
-module _ (u : Setup) (ring fram : List ℕ) (m : Memories u ring fram) where
+module _ (u : Setup) (ring fram : List ℕ) (m : AllBytes u ring fram) where
   slot-bytes : Bytes (slot-at ring (u .sizes .slots) 0 0)
   unfolding slot-at
   slot-bytes = bytes-part ring (slot-length * (0 * u .sizes .slots + 0)) slot-length (m .ring-bytes)

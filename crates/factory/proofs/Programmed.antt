@@ -1,6 +1,6 @@
 -- Memories that hold a first save's checkpoint and nothing else in the ring: what both sides of the theorem come to. Assumes nothing.
 use Prim.Native.Nat.{ℕ, _≤_}
-use mathlib.Core.Path.{_≡_, refl, sym, ap, subst, _∙_}
+use mathlib.Core.Path.{_≡_, sym, ap, subst, _∙_}
 use mathlib.Core.Bool.{false}
 use mathlib.Core.List.{List, _++_}
 use lib.ListN.{length, take, drop, take-append-drop}
@@ -14,17 +14,18 @@ use Rattle.checkpoint.specs.Fram.{fram-wrong, half-at}
 use Rattle.checkpoint.specs.Half.{stored}
 use Rattle.checkpoint.specs.Layout.{InRange}
 use Rattle.checkpoint.proofs.FramLaws.{fram-kept}
+use Rattle.checkpoint.proofs.SealedLaws.{length-sealed}
 use Rattle.checkpoint.proofs.HalfLaws.{read-back}
 use Rattle.protocol.specs.Calls.{Setup}
 use Rattle.protocol.specs.Operations.{key-wrong}
-use Rattle.factory.specs.Exactly.{First}
+use Rattle.factory.specs.Exactly.{FirstArguments, checkpoint-length}
 
 -- the checkpoint of a first save
-abbrev pub checkpoint-from : First → Checkpoint
+abbrev pub checkpoint-from : FirstArguments → Checkpoint
 checkpoint-from f = checkpoint-of (f .packet) (f .open-part) (f .secret) 0 (f .starting-tag) (f .nonce)
 
 -- the ring's one record stands in page 0, slot 0 and names half A, which begins with that checkpoint, sealed
-pub record Programmed (u : Setup) (ring fram : List ℕ) (f : First) : Type 0 where
+pub record Programmed (u : Setup) (ring fram : List ℕ) (f : FirstArguments) : Type 0 where
   pub ring-right : ring-wrong (u .sizes .pages) (u .sizes .slots) ring ≡ false
   pub fram-right : fram-wrong fram-limit fram ≡ false
   pub key-right : key-wrong key-lengths (length (u .key)) ≡ false
@@ -37,16 +38,18 @@ pub record Programmed (u : Setup) (ring fram : List ℕ) (f : First) : Type 0 wh
   pub behind : List ℕ
   pub there : half-at fram 0 ≡ sealed (u .key) (checkpoint-from f) ++ behind
 
-module _ {u : Setup} {ring fram : List ℕ} {f : First} (p : Programmed u ring fram f) where
+module _ {u : Setup} {ring fram : List ℕ} {f : FirstArguments} (p : Programmed u ring fram f) where
   -- the bytes of half A in the checkpoint's length
-  pub first-bytes : take (length (sealed (u .key) (checkpoint-from f))) (half-at fram 0) ≡ sealed (u .key) (checkpoint-from f)
-  first-bytes = ap (λ (l : List ℕ). take (length (sealed (u .key) (checkpoint-from f))) l) (p .there) ∙ take-append-seam (sealed (u .key) (checkpoint-from f)) (p .behind)
+  pub first-bytes : take (checkpoint-length f) (half-at fram 0) ≡ sealed (u .key) (checkpoint-from f)
+  first-bytes =
+      let whole : List ℕ = sealed (u .key) (checkpoint-from f) in
+      (λ i. take (sym (length-sealed (u .key) (checkpoint-from f) (p .range .previous-long)) i) (p .there i)) ∙ take-append-seam whole (p .behind)
 
   -- other bytes of the FRAM don't count
   pub moved-to : (ring′ fram′ : List ℕ) → ring ≡ ring′ → length fram ≡ length fram′
-      → (let n = length (sealed (u .key) (checkpoint-from f)) in take n (half-at fram 0) ≡ take n (half-at fram′ 0)) → Programmed u ring′ fram′ f
+      → take (checkpoint-length f) (half-at fram 0) ≡ take (checkpoint-length f) (half-at fram′ 0) → Programmed u ring′ fram′ f
   moved-to ring′ fram′ e l h =
-      let n : ℕ = length (sealed (u .key) (checkpoint-from f)) in
+      let n : ℕ = checkpoint-length f in
       record {
         ring-right = subst (λ (r : List ℕ). ring-wrong (u .sizes .pages) (u .sizes .slots) r ≡ false) e (p .ring-right);
         fram-right = fram-kept fram-limit fram fram′ (sym l) (p .fram-right);
@@ -69,14 +72,14 @@ module _ {u : Setup} {ring fram : List ℕ} {f : First} (p : Programmed u ring f
   nonce-is = ap (λ (l : List ℕ). take nonce-length l) (p .slot) ∙ nonce-of-record (f .nonce) 0 (p .nonce-long)
 
 -- memories that hold the same first save have the same ring
-pub one-ring : {u : Setup} {ring ring′ fram fram′ : List ℕ} {f : First} → Programmed u ring fram f → Programmed u ring′ fram′ f → ring ≡ ring′
+pub one-ring : {u : Setup} {ring ring′ fram fram′ : List ℕ} {f : FirstArguments} → Programmed u ring fram f → Programmed u ring′ fram′ f → ring ≡ ring′
 one-ring {u} {ring} {ring′} p q = same-first (u .sizes .pages) (u .sizes .slots) ring ring′ (p .ring-right) (q .ring-right) (p .reads) (q .reads) (p .slot ∙ sym (q .slot))
 
 -- and memories hold one first save at the most
-pub one-save : {u : Setup} {ring fram : List ℕ} {f g : First} → Programmed u ring fram f → Programmed u ring fram g → f ≡ g
+pub one-save : {u : Setup} {ring fram : List ℕ} {f g : FirstArguments} → Programmed u ring fram f → Programmed u ring fram g → f ≡ g
 one-save {u} {ring} {fram} {f} {g} p q = λ i. first-from (same i)
   where
-    first-from : Checkpoint → First
+    first-from : Checkpoint → FirstArguments
     first-from c = record { open-part = c .open-part; secret = c .secret; nonce = c .nonce; packet = c .packet; starting-tag = c .previous }
 
     same : checkpoint-from f ≡ checkpoint-from g

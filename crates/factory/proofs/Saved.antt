@@ -1,17 +1,17 @@
 -- What a first save leaves, run to its end. Assumes nothing.
-use Prim.Native.Nat.{ℕ, _+_, _%_, _≤_}
+use Prim.Native.Nat.{ℕ, _%_, _≤_}
 use mathlib.Core.Path.{_≡_, refl, sym, ap, subst, _∙_}
-use mathlib.Core.Bool.{Bool, false, not, _||_}
+use mathlib.Core.Bool.{Bool, false, _||_}
 use mathlib.Core.Option.{none}
-use mathlib.Core.List.{List, _++_}
+use mathlib.Core.List.{List, [], _++_}
 use native.Mathlib.Nat.{zero-div, zero-mod}
 use native.Mathlib.Omega.{arith}
-use lib.ListN.{length, take, length-append}
+use lib.ListN.{length, length-append}
 use borrow.Author.Tests.{eq-eqb, le-ltb}
 use Rattle.octets.specs.Limits.{key-lengths, fram-limit, part-limit, packet-limit, nonce-length, tag-length}
 use Rattle.stops.specs.Stops.{first-of}
 use Rattle.stops.proofs.Laws.{passes, neither}
-use Rattle.ring.specs.Ring.{Newest, ring-wrong, half-named, newest-record, read-ring, slot-at, record-of, At}
+use Rattle.ring.specs.Ring.{Newest, newest-record, slot-at, record-of, At}
 use Rattle.ring.proofs.SizeLaws.{sized-alike}
 use Rattle.ring.proofs.FoundLaws.{found}
 use Rattle.checkpoint.specs.Checkpoint.{Longer, Checkpoint, sealed, sealed-length, part-wrong}
@@ -19,20 +19,20 @@ use Rattle.checkpoint.specs.Fram.{fram-wrong, half-length, half-at}
 use Rattle.checkpoint.proofs.FramLaws.{an-image, fram-kept, half-kept, half-long}
 use Rattle.checkpoint.proofs.SealedLaws.{length-sealed}
 use Rattle.protocol.specs.Types.{Firmware, this-firmware}
-use Rattle.protocol.specs.Calls.{Setup, SaveArguments, from-tag, saved}
+use Rattle.protocol.specs.Calls.{Setup, saved}
 use Rattle.protocol.specs.Operations.{key-wrong, nonce-wrong, tag-wrong, from-wrong, parts-wrong, staging-wrong, packet-wrong, written-number, number-from, restarts-from, previous-tag, newest-half, save-checkpoint, ring-lines, save-stop}
 use Rattle.protocol.specs.Journal.{empty}
-use Rattle.protocol.specs.History.{State, fresh, run}
+use Rattle.protocol.specs.History.{State, fresh}
 use Rattle.protocol.specs.Histories.{to-its-end}
 use Rattle.protocol.proofs.Invariant.{ReadBy, half-of}
 use Rattle.protocol.proofs.Reading.{reads, record-found, half-found, newest-half-is, behind}
 use Rattle.protocol.proofs.PowerUps.{Entry}
 use Rattle.protocol.proofs.Runs.{Whole, recorded-entry}
 use Rattle.protocol.proofs.Histories.{first-save-whole}
-use Rattle.factory.specs.Exactly.{First, Lent, call, stored-bytes, ended, Leaves, Room}
+use Rattle.factory.specs.Exactly.{FirstArguments, Lent, call, after-save, Leaves, Room}
 use Rattle.factory.proofs.Programmed.{checkpoint-from, Programmed, first-bytes, one-ring}
 
-pub checkpoint-made : (u : Setup) (f : First) (staging : List ℕ) → save-checkpoint Longer (call u f staging) ≡ checkpoint-from f
+pub checkpoint-made : (u : Setup) (f : FirstArguments) (staging : List ℕ) → save-checkpoint Longer (call u f staging) ≡ checkpoint-from f
 unfolding save-checkpoint written-number number-from restarts-from previous-tag
 checkpoint-made u f staging = refl
 
@@ -40,12 +40,12 @@ checkpoint-made u f staging = refl
 first-place : (pages slots count : ℕ) (owed : Bool) → count ≡ 1 → owed ≡ false → found pages slots count owed ≡ At 0 0
 first-place pages slots count owed e o = (λ i. found pages slots (e i) (o i)) ∙ rw (zero-div slots, zero-mod pages, zero-mod slots)
 
-module _ (u : Setup) (f : First) (l : Lent) (e : save-stop this-firmware (l .ring) (l .fram) (call u f (l .staging)) ≡ none) where
+module _ (u : Setup) (f : FirstArguments) (l : Lent) (e : save-stop this-firmware (l .ring) (l .fram) (call u f (l .staging)) ≡ none) where
   abbrev c : Checkpoint
   c = save-checkpoint Longer (call u f (l .staging))
 
   abbrev t : State
-  t = ended u f l
+  t = after-save u f l
 
   pub whole : Whole u (fresh this-firmware (l .ring) (l .fram)) c (f .nonce)
       (let s = fresh this-firmware (l .ring) (l .fram) in to-its-end u s (saved (call u f (l .staging))))
@@ -80,7 +80,7 @@ module _ (u : Setup) (f : First) (l : Lent) (e : save-stop this-firmware (l .rin
       ap (half-at (t .fram)) (sym (half-found (whole .holds .fram-right) entry ∙ half-is))
       ∙ newest-half-is (whole .holds .fram-right) entry
 
-  pub as-long : length (ended u f l .fram) ≡ length (l .fram)
+  pub as-long : length (after-save u f l .fram) ≡ length (l .fram)
   unfolding fresh
   as-long = whole .passed .fram-long
 
@@ -92,7 +92,11 @@ module _ (u : Setup) (f : First) (l : Lent) (e : save-stop this-firmware (l .rin
   unfolding save-stop
   key-fits = neither _ _ (neither _ _ (passes _ e .1 .1 .0) .0) .0
 
-  pub left-programmed : Programmed u (ended u f l .ring) (ended u f l .fram) f
+  -- a session was handed out
+  pub handed-out : after-save u f l .sessions ≡ [] → ⊥
+  handed-out none-out = let s = whole .ended .session in let z : _≡_ {A = ℕ} 0 1 = cc in omega arith
+
+  pub left-programmed : Programmed u (after-save u f l .ring) (after-save u f l .fram) f
   unfolding save-checkpoint written-number number-from restarts-from previous-tag
   left-programmed = record {
     ring-right = whole .holds .ring-right;
@@ -110,7 +114,7 @@ module _ (u : Setup) (f : First) (l : Lent) (e : save-stop this-firmware (l .rin
 
 -- ---- a first save with the same parts, nonce, packet number and starting tag
 
-module _ {u : Setup} {ring fram : List ℕ} {f : First} (p : Programmed u ring fram f) (l : Lent) (room : Room l ring fram) where
+module _ {u : Setup} {ring fram : List ℕ} {f : FirstArguments} (p : Programmed u ring fram f) (l : Lent) (room : Room l ring fram) where
   -- its checkpoint fits the half
   fits : sealed-length Longer (length (f .open-part)) (length (f .secret)) ≤ half-length (l .fram)
   fits =
@@ -156,9 +160,7 @@ module _ {u : Setup} {ring fram : List ℕ} {f : First} (p : Programmed u ring f
       record {
         as-long = room .fram-long;
         begins = begins-again;
-        session = _;
-        earlier = whole u f l begins-again .ended .earlier;
-        said-saved = whole u f l begins-again .ended .session;
+        said-saved = handed-out u f l begins-again;
         this-ring = one-ring left p;
         these-bytes = first-bytes left ∙ sym (first-bytes p);
       }

@@ -1,7 +1,7 @@
 -- The stops of the check, stage by stage. Assumes nothing.
 use Prim.Native.Nat.{ℕ}
-use mathlib.Core.Path.{_≡_, ap, _∙_}
-use mathlib.Core.Option.{Option, none, some}
+use mathlib.Core.Path.{_≡_}
+use mathlib.Core.Option.{none, some}
 use mathlib.Core.List.{List}
 use Rattle.stops.specs.Stops.{first-of, then-stop}
 use Rattle.ring.specs.Ring.{Newest, read-ring, newest-record, half-named}

@@ -1,5 +1,5 @@
 -- Checking what the assembly house programs (document 02, A.10): which ring and FRAM image are accepted, and by which number the others are refused.
--- Exactly.antt says of which memories this is.
+-- That the memories which are accepted are exactly those that first saves leave is said in Exactly.antt.
 use Prim.Native.Nat.{ℕ}
 use mathlib.Core.Bool.{Bool, true, false, not, _||_}
 use mathlib.Core.Option.{Option}

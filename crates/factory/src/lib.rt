@@ -70,8 +70,8 @@ fn check_found(pages: usize, slots: usize, ring: &[u8], fram: &[u8], key: &[u8])
     }
 }
 
-// Passes exactly if a first save, run to its end, leaves this ring and, in its checkpoint's length of half A, these bytes; or stops with 1, 2,
-// 3, 6, 7, 11 or 12, as a look does, or with 19.
+// Passes exactly if some first save, run to its end, leaves this ring and, in its checkpoint's length of half A, these bytes. Else it stops with
+// the first that applies of 1, 2, 3, 6, 7, 11 and 12, as a look does, and 19.
 pub fn factory_check(pages: usize, slots: usize, ring: &[u8], fram: &[u8], key: &[u8]) -> Check
     ensures { λ r. ⌜ check-number r ≡ factory-stop (now (ring .entry)) (now (fram .entry)) (looks pages slots (now (key .entry))) ⌝ }
 {

@@ -1,6 +1,6 @@
 // Checks what the assembly house programs (document 02, A.10). The arguments are the ring's pages and slots and the names of three files with
 // the bytes of the ring, of the FRAM and of the key. It writes `accepted`, or `refused` with the stop's number. Where a file cannot be read,
-// nothing is checked, and standard error has the file's name and why.
+// nothing is checked, and standard error says which and why. The exit status does not tell.
 use bench_io::complain;
 use bench_io::number_argument;
 use bench_io::write_out;
@@ -13,6 +13,7 @@ use octets::limits::SLOT_LENGTH;
 use octets::limits::SLOTS_LIMIT;
 use stops::Check;
 use stops::stop_number;
+ghost use mathlib.Core.Path.{_≡_};
 ghost use Rattle.io.specs.Counts.{Counts};
 
 // One byte more than each may have, so that a longer file is seen to be longer.
@@ -28,26 +29,27 @@ struct Loaded {
     length: usize,
 }
 
-const NOT_READ: Loaded = Loaded {
-    is_read: false,
-    length: 0,
-};
+// Says why a file, which is to hold `what`, was not read; the system's reason is in errno.
+fn not_read(what: &[u8], path: &[u8]) -> Loaded
+    ensures { λ r. ⌜ r .length ≡ 0 ⌝ }
+{
+    complain(what);
+    os::fail(path);
+    Loaded {
+        is_read: false,
+        length: 0,
+    }
+}
 
-// Reads an open file, by name `path`. Behind its last byte another read finds the end, and not an error.
-fn read_open(file: i32, path: &[u8], buffer: &mut [u8]) -> Loaded
+// Reads an open file. That its end was reached, or the buffer's, and no error met on the way, one more read tells.
+fn read_open(file: i32, what: &[u8], path: &[u8], buffer: &mut [u8]) -> Loaded
     ensures { λ r. ⌜ Counts (r .length) (now (buffer .exit)) ⌝ }
 {
     let length = io::read_full(file, buffer);
     let mut byte = [0u8; 1];
     let more = libc::read(file, &mut byte);
-    if more < 0 {
-        os::fail(path);
-        return NOT_READ;
-    }
-    if (more > 0) & (length < buffer.len()) {
-        complain(path);
-        complain(b": could not be read whole\n");
-        return NOT_READ;
+    if (more < 0) | ((more > 0) & (length < buffer.len())) {
+        return not_read(what, path);
     }
     Loaded {
         is_read: true,
@@ -56,21 +58,19 @@ fn read_open(file: i32, path: &[u8], buffer: &mut [u8]) -> Loaded
 }
 
 // Reads the file that argument i names.
-fn load(i: usize, buffer: &mut [u8]) -> Loaded
+fn load(i: usize, what: &[u8], buffer: &mut [u8]) -> Loaded
     ensures { λ r. ⌜ Counts (r .length) (now (buffer .exit)) ⌝ }
 {
     let mut path = io::buffer();
     let n = os::arg(i, &mut path);
     if os::errno() != 0 {
-        os::fail(b"the name of a file");
-        return NOT_READ;
+        return not_read(what, b"name");
     }
     let file = os::open_read(&path[..n]);
     if file < 0 {
-        os::fail(&path[..n]);
-        return NOT_READ;
+        return not_read(what, &path[..n]);
     }
-    let loaded = read_open(file, &path[..n], buffer);
+    let loaded = read_open(file, what, &path[..n], buffer);
     libc::close(file);
     loaded
 }
@@ -97,15 +97,15 @@ fn run(ring: &mut [u8], fram: &mut [u8], key: &mut [u8]) {
         );
         return;
     }
-    let r = load(3, ring);
+    let r = load(3, b"ring: ", ring);
     if !r.is_read {
         return;
     }
-    let f = load(4, fram);
+    let f = load(4, b"FRAM: ", fram);
     if !f.is_read {
         return;
     }
-    let k = load(5, key);
+    let k = load(5, b"key: ", key);
     if !k.is_read {
         return;
     }

@@ -8,9 +8,9 @@ use native.Mathlib.Nat.{zero-add, mod-lt}
 use native.Mathlib.Numerals.{one-add}
 use native.Mathlib.Omega.{arith}
 use lib.Dec.{lit<, eqb, ltb}
-use lib.ListN.{length, take, drop, getD, length-append, length-take, length-drop, List·getD-append, List·getD-eq-default}
-use lib.Seq.{take-add, take-all, take-at, drop-at, getD-at, getD-drop, getD-take, length-take-le}
-use borrow.Author.Tests.{eqb-true, eqb-false, eq-eqb, ltb-true, ltb-false, le-ltb, lt-ltb}
+use lib.ListN.{length, take, drop, getD, length-append, length-take, length-drop, List·getD-append}
+use lib.Seq.{take-add, take-all, take-at, drop-at, getD-at, getD-drop, length-take-le}
+use borrow.Author.Tests.{eqb-true, eqb-false, eq-eqb, le-ltb, lt-ltb}
 use Rattle.octets.specs.Limits.{image-limit, data-per-line}
 use Rattle.octets.specs.Octets.{Bytes, part, put, bytes}
 use Rattle.octets.specs.Table.{table}

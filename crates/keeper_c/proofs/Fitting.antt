@@ -8,7 +8,7 @@ use mathlib.Core.List.{List}
 use native.Mathlib.Omega.{arith}
 use borrow.Author.Tests.{eqb-true, eq-eqb, le-ltb, not-false}
 use lib.Dec.{eqb, ltb, lit<}
-use lib.ListN.{length, length-append, take, getD}
+use lib.ListN.{length, length-append, take}
 use Rattle.octets.specs.Octets.{Bytes}
 use Rattle.octets.specs.Limits.{key-lengths, nonce-length, tag-length, packet-limit, part-limit, fram-limit}
 use Rattle.octets.specs.Word.{word-at}

@@ -1,17 +1,15 @@
 -- Laws of numbers as bytes, and of words. Assumes nothing.
 use mathlib.Core.Path.{_≡_, refl, sym, ap, ap₂, _∙_}
-use mathlib.Core.Bool.{Bool, true, false}
 use mathlib.Core.List.{List, [], _∷_, _++_}
 use Prim.Native.Nat.{ℕ, zero, suc, _+_, _-_, _*_, _/_, _%_, _^_, _≤_, _<_}
-use native.Mathlib.Nat.{add-zero, zero-add, add-suc, add-assoc, add-mul, mul-assoc, mul-one, mod-one, mod-eq-of-lt, mod-lt, div-add-mod', not-suc-le-zero, le-of-suc-le-suc}
+use native.Mathlib.Nat.{add-zero, zero-add, add-suc, add-assoc, add-mul, mul-assoc, mul-one, mod-one, mod-eq-of-lt, div-add-mod', not-suc-le-zero, le-of-suc-le-suc}
 use native.Mathlib.Numerals.{one-add}
 use native.Mathlib.Omega.{arith}
 use lib.Arith.{digits-lt, digits-div, digits-mod}
-use lib.Dec.{lit<, ltb}
-use lib.ListN.{length, getD, List·getD-append, List·getD-eq-default}
+use lib.Dec.{lit<}
+use lib.ListN.{length, getD, List·getD-append}
 use lib.Seq.{getD-append-add}
 use lib.Pow.{pow-add, mod-pow-add}
-use borrow.Author.Tests.{ltb-true, ltb-false}
 use Rattle.octets.specs.Octets.{Bytes, part, number, bytes}
 use Rattle.octets.specs.Word.{word-at, kind-of, value-of, word}
 use Rattle.octets.proofs.Laws.{length-part, getD-part}

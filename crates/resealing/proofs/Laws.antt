@@ -7,7 +7,7 @@ use mathlib.Core.List.{List, [], _∷_}
 use lib.Dec.{eqb}
 use borrow.Author.Tests.{eqb-false, ltb-false, not-false}
 use native.Mathlib.Omega.{arith}
-use lib.ListN.{length, getD}
+use lib.ListN.{length}
 use Rattle.octets.specs.Limits.{part-limit, restart-limit, tag-length}
 use Rattle.octets.specs.Octets.{Bytes, part, put}
 use Rattle.octets.specs.Word.{value-of}

@@ -1,7 +1,7 @@
 -- A ring with one record alone, in page 0, slot 0, byte for byte. Assumes nothing.
-use Prim.Native.Nat.{ℕ, zero, suc, _+_, _-_, _*_, _/_, _%_, _≤_, _<_}
-use mathlib.Core.Path.{_≡_, refl, sym, ap, _∙_}
-use mathlib.Core.Bool.{Bool, true, false}
+use Prim.Native.Nat.{ℕ, zero, suc, _+_, _-_, _*_, _/_, _%_, _<_}
+use mathlib.Core.Path.{_≡_, sym, ap, _∙_}
+use mathlib.Core.Bool.{true, false}
 use mathlib.Core.List.{List, _++_}
 use native.Mathlib.Nat.{div-add-mod', mod-lt, div-lt-iff-lt-mul}
 use native.Mathlib.Omega.{arith}
@@ -16,7 +16,7 @@ use Rattle.octets.proofs.Numbers.{word-again}
 use Rattle.ring.specs.Ring.{ring-wrong, slot-at, is-record, half-named, record-of, At, read-ring}
 use Rattle.ring.specs.Readable.{OneUsed}
 use Rattle.ring.proofs.SizeLaws.{Sized, sized}
-use Rattle.ring.proofs.SlotLaws.{slot-of-page, later, slots-blank}
+use Rattle.ring.proofs.SlotLaws.{later, slots-blank}
 use Rattle.ring.proofs.Exactly.{reads-exactly}
 
 -- a record of bytes is that of its nonce and the half that it names

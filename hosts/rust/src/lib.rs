@@ -416,7 +416,8 @@ pub fn ring_shape(sizes: Sizes, number: usize, ring: &mut [u8]) -> Result<(), St
 /// blank ring, advanced to its end, for some parts, nonce, packet number and starting tag.
 ///
 /// The ring must be that save's to the byte, and so must half A of the FRAM in the checkpoint's length; all other bytes of
-/// the FRAM are free. A unit so programmed starts by a [`power_up`].
+/// the FRAM are free. A unit so programmed starts by a [`power_up`]. That memories are accepted does not show that a unit
+/// is unused: a later save leaves such ones too, where the ring has come around.
 ///
 /// # Errors
 ///

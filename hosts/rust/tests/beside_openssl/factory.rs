@@ -10,7 +10,10 @@ use crate::operations::*;
 use crate::program::program;
 use crate::random::Random;
 use godwitshelf::{calls, Sizes};
+use std::ffi::OsStr;
 use std::fs;
+use std::io::Write as _;
+use std::os::unix::ffi::OsStrExt as _;
 use std::path::{Path, PathBuf};
 use std::process::{Command, Stdio};
 use std::rc::Rc;
@@ -18,9 +21,14 @@ use std::rc::Rc;
 for_each_key_length!(
     own_first_saves_damaged_in_every_byte,
     every_value_of_every_byte,
+    parts_of_every_small_length,
     the_longest_parts,
     images_of_another_implementation,
+    errors_of_another_implementation,
+    heads_that_are_wrong_under_a_right_tag,
+    what_is_accepted_starts,
     what_other_calls_leave,
+    pending_pages,
     cuts_of_a_first_save,
     the_first_number_that_applies,
     memories_changed_at_random,
@@ -189,7 +197,7 @@ fn own_first_saves_damaged_in_every_byte(key_length: usize) {
         let unit = own_first_save(key_length, size, packet);
         assert_eq!(unit.checked(), DONE, "{size:?}");
         for at in 0..unit.ring.len() {
-            for bit in [at % 8, (at + 3) % 8] {
+            for bit in 0..8 {
                 assert_ne!(unit.changed(|u| u.ring[at] ^= 1 << bit), DONE, "{size:?}: ring byte {at}, bit {bit}");
             }
         }
@@ -213,6 +221,27 @@ fn every_value_of_every_byte(key_length: usize) {
         for at in 0..unit.fram.len() {
             let answer = unit.changed(|u| u.fram[at] ^= change);
             assert_eq!(answer != DONE, at < 60, "FRAM byte {at} changed by {change} gives {answer}");
+        }
+    }
+}
+
+/// Both parts of 0 to 36 bytes, in halves that they fill and in longer ones, each with another nonce.
+fn parts_of_every_small_length(key_length: usize) {
+    let mut random = Random::new(31);
+    for (open, secret) in (0..=36).step_by(4).flat_map(|open| (0..=36).step_by(4).map(move |secret| (open, secret))) {
+        let least = 2 * (48 + open + secret);
+        for fram in [least, least + 8] {
+            let size = size(3 + open / 4, 2 + secret / 4, fram, open, secret);
+            let mut unit = lent(key_length, size.pages, size.slots, size.fram);
+            (unit.open_part, unit.secret) = (random.bytes(open), random.bytes(secret));
+            unit.nonce = random.bytes(12);
+            unit.packet = random.next() as u32 & LARGEST_PACKET;
+            assert_eq!(answer(Operation::FirstSave, &mut unit), DONE);
+            finished(&mut unit);
+            let unit = Unit::of(&unit);
+            assert_eq!(unit.checked(), DONE, "{size:?}");
+            assert_eq!(unit.changed(|u| u.fram[48 + open + secret - 1] ^= 1), 12, "{size:?}");
+            assert_eq!(unit.changed(|u| u.fram[48 + open + secret] ^= 1), DONE, "{size:?}");
         }
     }
 }
@@ -302,23 +331,127 @@ fn images_of_another_implementation(key_length: usize) {
     }
 }
 
-/// A unit that has saved again or was powered up is no new one, and neither is one of older firmware.
-fn what_other_calls_leave(key_length: usize) {
-    for operation in [Operation::Save, Operation::PowerUp] {
-        // A ring of 3 by 2 comes around to page 0, slot 0 with the seventh record, in half A, with page 2 erased again.
-        let mut unit = lent(key_length, 3, 2, 128);
-        made(Operation::FirstSave, &mut unit, 1);
-        assert_eq!(Unit::of(&unit).checked(), DONE);
-        for count in 2..=7 {
-            made(operation, &mut unit, 1);
-            let same_place = Unit::of(&unit).ring[16..].iter().all(|byte| *byte == 0xFF);
-            assert_eq!(same_place, count == 7);
-            // The seventh record of saves stands where a first save's would, and its checkpoint is one that a first save
-            // could have made: nothing tells it from one. That of a power-up has restarts.
-            let answer = if count == 7 && operation == Operation::Save { DONE } else { 19 };
-            assert_eq!(Unit::of(&unit).checked(), answer, "{operation:?} {count}");
+/// What a tool that follows the documents almost would write.
+fn errors_of_another_implementation(key_length: usize) {
+    let mut random = Random::new(11);
+    let size = size(3, 2, 128, 8, 4);
+    let key = random.bytes(key_length);
+    let checkpoint = first_checkpoint(&mut random, size, 0x0102_0304);
+    let unit = Unit::with(size, &key, &checkpoint, (0, 0, 0));
+    assert_eq!(unit.checked(), DONE);
+    // The place word, or the head's words, with the least significant byte first.
+    assert_eq!(unit.changed(|u| u.ring[12..16].reverse()), 7);
+    assert_eq!(unit.changed(|u| u.fram[..16].chunks_mut(4).for_each(|word| word.reverse())), 11);
+    // The first slots left blank, or the record cut short by the programmer.
+    assert_eq!(unit.changed(|u| u.ring.rotate_right(16)), 7);
+    for bytes in 0..16 {
+        let answer = unit.changed(|u| u.ring[bytes..16].fill(0xFF));
+        assert_eq!(answer, if bytes == 0 { 6 } else { 7 }, "{bytes} bytes of the record");
+    }
+    // A ring of zeros, and a FRAM that was not written.
+    assert_eq!(unit.changed(|u| u.ring.fill(0)), 7);
+    assert_eq!(unit.changed(|u| u.fram.fill(0)), 11);
+    assert_eq!(unit.changed(|u| u.fram.fill(0xFF)), 11);
+    // The secret part not sealed; the head, or the open part, left out of the associated data; the tag of a text that is not
+    // there.
+    let sealed_with = |aad: &[u8], text: &[u8]| openssl::seal(&key, &checkpoint.nonce, aad, text);
+    let (head, open) = (unit.fram[..32].to_vec(), checkpoint.open_part.clone());
+    assert_eq!(unit.changed(|u| u.fram[40..44].copy_from_slice(&checkpoint.secret)), 12);
+    for aad in [&open[..], &head, &head[4..], &[]] {
+        let (secret, tag) = sealed_with(aad, &checkpoint.secret);
+        assert_eq!(unit.changed(|u| u.fram[40..60].copy_from_slice(&[&secret[..], &tag].concat())), 12);
+    }
+    let (_, tag) = sealed_with(&[&head[..], &open].concat(), &[]);
+    assert_eq!(unit.changed(|u| u.fram[44..60].copy_from_slice(&tag)), 12);
+    // Lengths in bytes and not in words.
+    assert_eq!(unit.changed(|u| (u.fram[7], u.fram[11]) = (8, 4)), 11);
+}
+
+/// A head word of a wrong kind or value, or a checkpoint longer than the half, with the tag of what is there: 11.
+fn heads_that_are_wrong_under_a_right_tag(key_length: usize) {
+    let mut random = Random::new(13);
+    let size = size(3, 2, 128, 8, 4);
+    let key = random.bytes(key_length);
+    let checkpoint = first_checkpoint(&mut random, size, 9);
+    let unit = Unit::with(size, &key, &checkpoint, (0, 0, 0));
+    let sealed_again = |u: &mut Unit| {
+        let (secret, tag) = openssl::seal(&key, &checkpoint.nonce, &u.fram[..40], &checkpoint.secret);
+        u.fram[40..60].copy_from_slice(&[&secret[..], &tag].concat());
+    };
+    assert_eq!(unit.changed(sealed_again), DONE);
+    for (at, right) in [(0, 0), (4, 1), (8, 2), (12, 3)] {
+        for kind in (0..4).filter(|kind| *kind != right) {
+            let answer = unit.changed(|u| {
+                u.fram[at] = u.fram[at] & 0x3F | kind << 6;
+                sealed_again(u)
+            });
+            assert_eq!(answer, 11, "kind {kind} at byte {at}");
         }
     }
+    for (open, secret) in [(32_772, 0), (0, 32_772), (32_768, 32_772)] {
+        let long = self::size(3, 2, 262_144, open, secret);
+        let checkpoint = first_checkpoint(&mut random, long, 0);
+        assert_eq!(Unit::with(long, &key, &checkpoint, (0, 0, 0)).checked(), 11, "{open} and {secret} bytes");
+    }
+    // One that runs into half B.
+    let over = self::size(3, 2, 112, 8, 4);
+    let checkpoint = first_checkpoint(&mut random, over, 0);
+    assert_eq!(Unit::with(over, &key, &checkpoint, (0, 0, 0)).checked(), 11);
+    // The older head in the smallest FRAM, which holds no longer one.
+    let smallest = self::size(3, 2, 88, 0, 0);
+    let older = Checkpoint { form: Form::Older, ..first_checkpoint(&mut random, smallest, 0) };
+    assert_eq!(Unit::with(smallest, &key, &older, (0, 0, 0)).checked(), 19);
+}
+
+/// Images of another implementation that are accepted, on a unit: look, power-up and save go on from them.
+fn what_is_accepted_starts(key_length: usize) {
+    let mut random = Random::new(14);
+    for size in SMALL {
+        let key = random.bytes(key_length);
+        let checkpoint = first_checkpoint(&mut random, size, 5);
+        let programmed = Unit::with(size, &key, &checkpoint, (0, 0, 0));
+        assert_eq!(programmed.checked(), DONE);
+        let mut unit = Lent {
+            ring: programmed.ring,
+            fram: programmed.fram,
+            key,
+            nonce: vec![0xEE; 12],
+            ..lent(key_length, size.pages, size.slots, size.fram)
+        };
+        assert_eq!(answer(Operation::Look, &mut unit), DONE);
+        assert_eq!((unit.restarts, unit.open_start, unit.open_len), (0, 32, size.open));
+        assert_eq!(answer(Operation::PowerUp, &mut unit), DONE);
+        finished(&mut unit);
+        assert_eq!(unit.state[..size.secret], checkpoint.secret);
+        (unit.open_part, unit.secret) = (checkpoint.open_part, checkpoint.secret);
+        made(Operation::Save, &mut unit, 6);
+        assert_eq!(Unit::of(&unit).checked(), 19, "{size:?}");
+    }
+}
+
+/// What saves and power-ups leave, and first saves of older firmware.
+fn what_other_calls_leave(key_length: usize) {
+    // A ring of 3 by 2 comes around to page 0, slot 0 with the seventh record, in half A; one of 3 by 3 with the tenth, in
+    // half B, and with the nineteenth, in half A. A save's checkpoint there is one that a first save could have made, if it
+    // has no restarts: nothing tells it from one. A power-up's has restarts.
+    for (slots, around, operation) in [(2, 7, Operation::Save), (2, 7, Operation::PowerUp), (3, 19, Operation::Save)] {
+        let mut unit = lent(key_length, 3, slots, 128);
+        made(Operation::FirstSave, &mut unit, 1);
+        assert_eq!(Unit::of(&unit).checked(), DONE);
+        for count in 2..=around {
+            made(operation, &mut unit, 1);
+            let answer = if count == around && operation == Operation::Save { DONE } else { 19 };
+            assert_eq!(Unit::of(&unit).checked(), answer, "{operation:?} {count} of 3 by {slots}");
+        }
+    }
+    // Restarts that a save carries over.
+    let mut unit = lent(key_length, 3, 2, 128);
+    made(Operation::FirstSave, &mut unit, 1);
+    made(Operation::PowerUp, &mut unit, 0);
+    for _ in 3..=7 {
+        made(Operation::Save, &mut unit, 1);
+    }
+    assert_eq!(Unit::of(&unit).checked(), 19);
     for firmware in FIRMWARES.into_iter().filter(|firmware| firmware.takes_key_of(key_length)) {
         let mut unit = lent(key_length, 3, 2, 128);
         unit.job = vec![0; job_length(firmware.form)];
@@ -328,6 +461,38 @@ fn what_other_calls_leave(key_length: usize) {
         let answer = if firmware == DOCUMENT_01 { 19 } else { DONE };
         assert_eq!(Unit::of(&unit).checked(), answer, "{}", firmware.name);
     }
+}
+
+/// "a page pending", whatever it holds, and wherever the newest record stands.
+fn pending_pages(key_length: usize) {
+    let mut random = Random::new(15);
+    let size = size(4, 3, 128, 8, 4);
+    let key = random.bytes(key_length);
+    let checkpoint = first_checkpoint(&mut random, size, 9);
+    let first = Unit::with(size, &key, &checkpoint, (0, 0, 0));
+    let records = record(&[3; 12], 1).repeat(size.slots);
+    for bytes in [&records[..], &vec![0; 48], &random.bytes(48)] {
+        let pending = |u: &mut Unit| page_at(3, size.slots).of(&mut u.ring).copy_from_slice(bytes);
+        assert_eq!(first.changed(pending), 19);
+    }
+    // The first record's own page pending, behind a newer one of the same checkpoint.
+    let newer = |u: &mut Unit| slot_at(1, 0, size.slots).of(&mut u.ring).copy_from_slice(&record(&checkpoint.nonce, 0));
+    assert_eq!(first.changed(newer), 19);
+    // While a save comes around to page 0: a page is pending between its record and its last store.
+    let mut unit = lent(key_length, 3, 2, 128);
+    made(Operation::FirstSave, &mut unit, 1);
+    for _ in 2..=6 {
+        made(Operation::Save, &mut unit, 1);
+    }
+    assert_eq!(started(Operation::Save, &mut unit, 1), DONE);
+    loop {
+        assert_eq!(Unit::of(&unit).checked(), 19);
+        match answer(Operation::Advance, &mut unit) {
+            GOING_ON => (),
+            last => break assert_eq!(last, SAVED),
+        }
+    }
+    assert_eq!(Unit::of(&unit).checked(), DONE);
 }
 
 /// "run to its end": before the record the ring is blank.
@@ -343,39 +508,62 @@ fn cuts_of_a_first_save(key_length: usize) {
     assert_eq!(Unit::of(&unit).checked(), DONE);
 }
 
-/// Each number with all that come behind it.
+/// Each number together with those behind it.
 fn the_first_number_that_applies(key_length: usize) {
     let mut random = Random::new(23);
     let size = size(3, 2, 128, 8, 4);
     let key = random.bytes(key_length);
     let restarted = Checkpoint { restarts: 1, ..first_checkpoint(&mut random, size, 9) };
     let mut unit = Unit::with(size, &key, &restarted, (0, 0, 0));
-    assert_eq!(unit.checked(), 19);
+    let mut units = vec![(19, unit.clone())];
     unit.fram[59] ^= 1;
-    assert_eq!(unit.checked(), 12);
+    units.push((12, unit.clone()));
     unit.fram[12] ^= 0x80;
-    assert_eq!(unit.checked(), 11);
+    units.push((11, unit.clone()));
     unit.ring[12] ^= 0x80;
-    assert_eq!(unit.checked(), 7);
+    units.push((7, unit.clone()));
     unit.ring.fill(0xFF);
-    assert_eq!(unit.checked(), 6);
-    for length in (0..=64).filter(|length| ![16, 32].contains(length)) {
-        assert_eq!(unit.changed(|u| u.key.resize(length, 0)), 3, "a key of {length} bytes");
+    units.push((6, unit));
+    for (number, unit) in units {
+        assert_eq!(unit.checked(), number);
+        for length in (0..=64).filter(|length| ![16, 32].contains(length)) {
+            assert_eq!(unit.changed(|u| u.key.resize(length, 0)), 3, "a key of {length} bytes before {number}");
+        }
+        for key_too in [false, true] {
+            for length in [0, 80, 84, 127, 129, 262_152] {
+                let answer = unit.changed(|u| {
+                    u.fram.resize(length, 0);
+                    u.key.truncate(if key_too { 15 } else { key_length });
+                });
+                assert_eq!(answer, 2, "a FRAM of {length} bytes before {number}");
+            }
+        }
+        // 2^60 + 3 pages of 2 slots are 96 bytes to whoever takes them at 64 bits.
+        let others = [
+            (2, 2),
+            (33, 2),
+            (3, 1),
+            (3, 513),
+            (0, 0),
+            (2, 3),
+            (4, 2),
+            (3, usize::MAX),
+            ((1 << 60) + 3, 2),
+            (3, (1 << 60) + 2),
+        ];
+        for (pages, slots) in others {
+            for fram_too in [false, true] {
+                let answer = unit.changed(|u| {
+                    (u.pages, u.slots) = (pages, slots);
+                    u.fram.truncate(if fram_too { 127 } else { 128 });
+                });
+                assert_eq!(answer, 1, "{pages} by {slots} before {number}");
+            }
+        }
+        for length in [0, 95, 97, 112] {
+            assert_eq!(unit.changed(|u| u.ring.resize(length, 0xFF)), 1, "a ring of {length} bytes before {number}");
+        }
     }
-    unit.key.pop();
-    for length in [0, 80, 84, 127, 129, 262_152] {
-        assert_eq!(unit.changed(|u| u.fram.resize(length, 0)), 2, "a FRAM of {length} bytes");
-    }
-    unit.fram.pop();
-    for (pages, slots) in [(2, 2), (33, 2), (3, 1), (3, 513), (0, 0), (2, 3), (4, 2), (3, usize::MAX)] {
-        assert_eq!(unit.changed(|u| (u.pages, u.slots) = (pages, slots)), 1, "{pages} by {slots}");
-    }
-    unit.ring.pop();
-    assert_eq!(unit.checked(), 1);
-    // The smallest FRAM holds no checkpoint of the longer form.
-    let small = Unit { pages: 3, slots: 2, ring: vec![0xFF; 96], fram: vec![0; 88], key };
-    assert_eq!(small.checked(), 6);
-    assert_eq!(small.changed(|u| u.ring[..16].copy_from_slice(&record(&[0; 12], 0))), 11);
 }
 
 /// Some fields of a first save's memories made wrong, together.
@@ -472,15 +660,57 @@ fn the_programs_lines() {
         assert_eq!(line(&|u| u.fram[4] = 0), "refused 11\n");
         assert_eq!(line(&|u| u.fram[59] ^= 1), "refused 12\n");
         assert_eq!(line(&|u| u.ring[95] = 0), "refused 19\n");
-        // Longer than the largest: the program reads one byte more, and no other.
-        assert_eq!(line(&|u| u.ring.resize(300_000, 0xFF)), "refused 1\n");
-        assert_eq!(line(&|u| u.fram.resize(262_152, 0)), "refused 2\n");
-        assert_eq!(line(&|u| u.fram.resize(524_288, 0)), "refused 2\n");
-        assert_eq!(line(&|u| u.key.resize(64, 0)), "refused 3\n");
     }
-    // The largest of each.
+    // The largest of each, and files that begin with these and are longer.
     let unit = own_first_save(32, self::size(32, 512, 262_144, 32_768, 32_768), 0);
     assert_eq!(viewed_unit(&folder, &unit), ("accepted\n".to_string(), String::new()));
+    for more in [1, 8, 300_000] {
+        let refused = |number: u32, change: &dyn Fn(&mut Unit)| {
+            let mut copy = unit.clone();
+            change(&mut copy);
+            assert_eq!(
+                viewed_unit(&folder, &copy),
+                (format!("refused {number}\n"), String::new()),
+                "{more} bytes more"
+            );
+        };
+        refused(1, &|u| u.ring.extend(vec![0xFF; more]));
+        refused(2, &|u| u.fram.extend(vec![0; more]));
+        refused(3, &|u| u.key.extend(vec![0; more]));
+    }
+}
+
+/// Files of other kinds: a pipe that is written in pieces, and one that is always empty.
+#[test]
+fn the_programs_other_files() {
+    let folder = folder("factory_pipes");
+    let unit = own_first_save(16, size(3, 2, 128, 8, 4), 5);
+    viewed_unit(&folder, &unit);
+    let path = |name: &str| folder.join(name).to_str().unwrap().to_string();
+    let run = |ring: &str, piped: &[u8]| {
+        let mut ran = Command::new(program("factory_view"))
+            .args(["3", "2", ring, &path("fram"), &path("key")])
+            .stdin(Stdio::piped())
+            .stdout(Stdio::piped())
+            .spawn()
+            .unwrap();
+        let mut input = ran.stdin.take().unwrap();
+        for piece in piped.chunks(7) {
+            input.write_all(piece).unwrap();
+            input.flush().unwrap();
+        }
+        drop(input);
+        String::from_utf8(ran.wait_with_output().unwrap().stdout).unwrap()
+    };
+    assert_eq!(run("/dev/stdin", &unit.ring), "accepted\n");
+    assert_eq!(run("/dev/stdin", &unit.ring[1..]), "refused 1\n");
+    assert_eq!(run("/dev/null", &[]), "refused 1\n");
+    // A name of bytes that are no text.
+    let odd = folder.join(OsStr::from_bytes(b"ring \xFF\n"));
+    fs::write(&odd, &unit.ring).unwrap();
+    let ran =
+        Command::new(program("factory_view")).args(["3", "2"]).arg(&odd).args([path("fram"), path("key")]).output();
+    assert_eq!(ran.unwrap().stdout, b"accepted\n");
 }
 
 /// The files that the gate runs the program on.
@@ -506,17 +736,23 @@ fn files_that_cannot_be_read() {
         viewed(&words)
     };
     for at in 0..3 {
+        let what = ["ring", "FRAM", "key"][at];
+        let complaint = |name: &str, why: &str| (String::new(), format!("{what}: {name}: {why}\n"));
         let missing = path("missing");
-        let complaint = format!("{missing}: No such file or directory\n");
-        assert_eq!(with(at, &missing), (String::new(), complaint));
+        assert_eq!(with(at, &missing), complaint(&missing, "No such file or directory"));
         let directory = folder.to_str().unwrap();
-        assert_eq!(with(at, directory), (String::new(), format!("{directory}: Is a directory\n")));
+        assert_eq!(with(at, directory), complaint(directory, "Is a directory"));
         let through = path("ring/file");
-        assert_eq!(with(at, &through), (String::new(), format!("{through}: Not a directory\n")));
-        assert_eq!(with(at, ""), (String::new(), ": No such file or directory\n".to_string()));
-        let (output, complaint) = with(at, &"x".repeat(5000));
-        assert_eq!((output, complaint), (String::new(), "the name of a file: File name too long\n".to_string()));
+        assert_eq!(with(at, &through), complaint(&through, "Not a directory"));
+        assert_eq!(with(at, ""), complaint("", "No such file or directory"));
+        let long = "x".repeat(4095);
+        assert_eq!(with(at, &long), complaint(&long, "File name too long"));
+        assert_eq!(with(at, &"x".repeat(5000)), complaint("name", "File name too long"));
     }
+    // Of two, the first is named.
+    let missing = [path("missing ring"), path("missing key")];
+    let complaint = format!("ring: {}: No such file or directory\n", missing[0]);
+    assert_eq!(viewed(&["3", "2", &missing[0], &files[1], &missing[1]]), (String::new(), complaint));
     for words in [
         &[][..],
         &["3", "2"],

@@ -6,7 +6,7 @@ use Prim.Native.Nat.{ℕ, _+_, _*_, _≤_}
 use native.Mathlib.Omega.{arith}
 use lib.ListN.{length}
 use borrow.Author.Needs.{needs}
-use Rattle.octets.specs.Limits.{nonce-length, fram-limit}
+use Rattle.octets.specs.Limits.{fram-limit}
 use Rattle.octets.specs.Octets.{part}
 use Rattle.stops.specs.Stops.{first-of}
 use Rattle.stops.specs.View.{check-number}
@@ -18,7 +18,7 @@ use Rattle.checkpoint.proofs.FramLaws.{an-image, half-within}
 use Rattle.checkpoint.proofs.SealedLaws.{head-small}
 use Rattle.protocol.specs.Operations.{look-by, stretch-by}
 use Rattle.look.specs.declared.types.Looked.the-variants.{Restarts}
-use Rattle.look.specs.Stages.{of-half, look-half}
+use Rattle.look.specs.Stages.{look-half}
 use Rattle.look.specs.Seen.{Sees}
 use Rattle.look.proofs.LookLaws.{half-checked}
 use Rattle.look.proofs.looking.see_half.Statement.{statement}
