@@ -7,7 +7,7 @@ use native.Mathlib.Omega.{arith}
 use native.Mathlib.Nat.{add-zero, mul-add}
 use lib.ListN.{length, length-append}
 use lib.Seq.{take-at, drop-at}
-use borrow.Author.Tests.{eqb-true, le-ltb, ltb-false, not-false}
+use borrow.Author.Tests.{eqb-true, le-ltb, ltb-false, not-false, eq-eqb}
 use Rattle.octets.specs.Limits.{tag-length}
 use Rattle.octets.specs.Octets.{part}
 use Rattle.octets.specs.Word.{word, word-at}
@@ -20,16 +20,19 @@ use Rattle.checkpoint.specs.Layout.{PacketInRange, InRange}
 
 -- ---- parts
 
--- what a part that passes stop 4 is; an empty one passes
+-- what a part that passes stop 4 is, and that such a one passes
 pub part-sizes : (limit : ℕ) (p : List ℕ) → part-wrong limit p ≡ false → (length p % 4 ≡ 0) × (length p ≤ limit)
 unfolding part-wrong
 part-sizes limit p e =
     let x = neither _ _ e in
     (eqb-true (length p % 4) 0 (not-false _ (x .0)), ltb-false limit (length p) (x .1))
 
-pub empty-passes : (limit : ℕ) → part-wrong limit [] ≡ false
+pub part-passes : (limit : ℕ) (p : List ℕ) → length p % 4 ≡ 0 → length p ≤ limit → part-wrong limit p ≡ false
 unfolding part-wrong
-empty-passes limit = le-ltb limit 0 (omega arith)
+part-passes limit p w s = rw (eq-eqb (length p % 4) 0 w) (le-ltb limit (length p) s)
+
+pub empty-passes : (limit : ℕ) → part-wrong limit [] ≡ false
+empty-passes limit = part-passes limit [] refl (omega arith)
 
 -- ---- the head of either form
 

@@ -1,6 +1,6 @@
 -- What a first save leaves, run to its end. Assumes nothing.
-use Prim.Native.Nat.{ℕ, _%_, _≤_}
-use mathlib.Core.Path.{_≡_, refl, sym, ap, subst, _∙_}
+use Prim.Native.Nat.{ℕ, _≤_}
+use mathlib.Core.Path.{_≡_, sym, ap, subst, _∙_}
 use mathlib.Core.Bool.{Bool, false, _||_}
 use mathlib.Core.Option.{none}
 use mathlib.Core.List.{List, [], _++_}
@@ -14,10 +14,10 @@ use Rattle.stops.proofs.Laws.{passes, neither}
 use Rattle.ring.specs.Ring.{Newest, newest-record, slot-at, record-of, At}
 use Rattle.ring.proofs.SizeLaws.{sized-alike}
 use Rattle.ring.proofs.FoundLaws.{found}
-use Rattle.checkpoint.specs.Checkpoint.{Longer, Checkpoint, sealed, sealed-length, part-wrong}
+use Rattle.checkpoint.specs.Checkpoint.{Longer, Checkpoint, sealed, sealed-length}
 use Rattle.checkpoint.specs.Fram.{fram-wrong, half-length, half-at}
 use Rattle.checkpoint.proofs.FramLaws.{an-image, fram-kept, half-kept, half-long}
-use Rattle.checkpoint.proofs.SealedLaws.{length-sealed}
+use Rattle.checkpoint.proofs.SealedLaws.{part-passes, length-sealed}
 use Rattle.protocol.specs.Types.{Firmware, this-firmware}
 use Rattle.protocol.specs.Calls.{Setup, saved}
 use Rattle.protocol.specs.Operations.{key-wrong, nonce-wrong, tag-wrong, from-wrong, parts-wrong, staging-wrong, packet-wrong, written-number, number-from, restarts-from, previous-tag, newest-half, save-checkpoint, ring-lines, save-stop}
@@ -31,10 +31,6 @@ use Rattle.protocol.proofs.Runs.{Whole, recorded-entry}
 use Rattle.protocol.proofs.Histories.{first-save-whole}
 use Rattle.factory.specs.Exactly.{FirstArguments, Lent, call, after-save, Leaves, Room}
 use Rattle.factory.proofs.Programmed.{checkpoint-from, Programmed, first-bytes, one-ring}
-
-pub checkpoint-made : (u : Setup) (f : FirstArguments) (staging : List ℕ) → save-checkpoint Longer (call u f staging) ≡ checkpoint-from f
-unfolding save-checkpoint written-number number-from restarts-from previous-tag
-checkpoint-made u f staging = refl
 
 -- the first of all records stands in page 0, slot 0
 first-place : (pages slots count : ℕ) (owed : Bool) → count ≡ 1 → owed ≡ false → found pages slots count owed ≡ At 0 0
@@ -123,10 +119,6 @@ module _ {u : Setup} {ring fram : List ℕ} {f : FirstArguments} (p : Programmed
       let whole = length-sealed (u .key) (checkpoint-from f) (p .range .previous-long) in
       omega (arith, long, both, whole, half-kept fram (l .fram) (room .fram-long))
 
-  part-passes : (part : List ℕ) → length part % 4 ≡ 0 → length part ≤ part-limit → part-wrong part-limit part ≡ false
-  unfolding part-wrong
-  part-passes part w s = rw (eq-eqb (length part % 4) 0 w) (le-ltb part-limit (length part) s)
-
   lengths-pass : key-wrong key-lengths (length (u .key)) || nonce-wrong (length (f .nonce)) || tag-wrong (length (f .starting-tag)) ≡ false
   lengths-pass = rw (p .key-right, eq-eqb (length (f .nonce)) nonce-length (p .nonce-long), eq-eqb (length (f .starting-tag)) tag-length (p .range .previous-long))
 
@@ -134,8 +126,8 @@ module _ {u : Setup} {ring fram : List ℕ} {f : FirstArguments} (p : Programmed
   unfolding parts-wrong staging-wrong
   buffers-pass =
       rw (
-        part-passes (f .open-part) (p .range .open-whole) (p .open-small),
-        part-passes (f .secret) (p .range .secret-whole) (p .secret-small),
+        part-passes part-limit (f .open-part) (p .range .open-whole) (p .open-small),
+        part-passes part-limit (f .secret) (p .range .secret-whole) (p .secret-small),
         le-ltb (half-length (l .fram)) (sealed-length Longer (length (f .open-part)) (length (f .secret))) fits,
       )
       (le-ltb (length (l .staging)) (half-length (l .fram)) (omega (arith, room .staging-long, half-kept fram (l .fram) (room .fram-long))))
@@ -154,7 +146,6 @@ module _ {u : Setup} {ring fram : List ℕ} {f : FirstArguments} (p : Programmed
 
   -- it leaves these memories
   pub leaves-again : Leaves u f l ring fram
-  unfolding save-checkpoint written-number number-from restarts-from previous-tag
   leaves-again =
       let left = left-programmed u f l begins-again in
       record {

@@ -8,8 +8,8 @@ use lib.ListN.{length, replicate, length-replicate}
 use Rattle.octets.specs.Octets.{erased}
 use Rattle.octets.proofs.Laws.{blank-erased}
 use Rattle.checkpoint.specs.Fram.{half-length}
-use Rattle.protocol.specs.Calls.{Setup}
 use Rattle.protocol.specs.Types.{this-firmware}
+use Rattle.protocol.specs.Calls.{Setup}
 use Rattle.protocol.specs.Operations.{save-stop}
 use Rattle.factory.specs.Exactly.{FirstArguments, Lent, call, after-save, Leaves, Room, AcceptedExactly, WhateverIsLent, OwnAccepted, OnlyOne}
 use Rattle.factory.proofs.Programmed.{Programmed, moved-to, one-save}
