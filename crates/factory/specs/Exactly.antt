@@ -91,8 +91,8 @@ WhateverIsLent =
     (u : Setup) (ring fram : List ℕ) → AllBytes u ring fram → factory-stop ring fram (looks u) ≡ none
     → (f : FirstArguments) × OfBytes f × ((l : Lent) → Room l ring fram → Leaves u f l ring fram)
 
--- everything that our own first save leaves is accepted, since a save that does not stop is run to its end, and so is whatever else it could be said to
--- leave: the bytes of the FRAM behind its checkpoint and in half B are free
+-- a first save of our own that does not stop comes to its end, and everything that it leaves is accepted, also with other bytes behind its checkpoint
+-- and in half B, which are free
 unfoldable pub OwnAccepted : Type 0
 OwnAccepted =
     (u : Setup) (f : FirstArguments) (l : Lent) → save-stop this-firmware (l .ring) (l .fram) (call u f (l .staging)) ≡ none

@@ -1,6 +1,6 @@
 //! Document 02, A.10: "Given ring, FRAM and key, accept exactly if some parts, nonce, packet number and starting tag exist
 //! for which a first save, run to its end, leaves this ring and these bytes in the checkpoint's length of half A." Each
-//! answer is compared with both of its halves: the numbers, and a first save made anew, over OpenSSL.
+//! answer is compared with both ways of saying it: by the numbers, and by a first save made anew, over OpenSSL.
 
 use crate::by_hand::*;
 use crate::firmware::{Firmware, DOCUMENT_01, FIRMWARES, KEEPER};
@@ -630,7 +630,7 @@ fn viewed_unit(folder: &Path, unit: &Unit) -> (String, String) {
     viewed(&[&unit.pages.to_string(), &unit.slots.to_string(), &ring, &fram, &key])
 }
 
-/// "prints `accepted` or `refused N`"
+/// The program's line for files of bytes.
 #[test]
 fn the_programs_lines() {
     let folder = folder("factory_lines");
@@ -722,7 +722,7 @@ fn the_files_of_the_gate() {
     assert_eq!(unit.checked(), DONE);
 }
 
-/// "clear errors for files that cannot be read"
+/// Files that cannot be read are named with why, and nothing is checked; other arguments are answered with the usage.
 #[test]
 fn files_that_cannot_be_read() {
     let folder = folder("factory_errors");
