@@ -1,6 +1,6 @@
 /*
- * Times the keeper's calls, its sealing and opening beside BearSSL, mbedTLS and OpenSSL, and its Intel HEX beside binutils and SRecord;
- * measures the stack that its calls use; and writes docs/PERFORMANCE.md. hosts/bench/run.sh builds and runs it:
+ * Times the keeper's calls, its sealing and opening beside BearSSL, mbedTLS and OpenSSL, its Intel HEX beside binutils and SRecord,
+ * and its chains of dumps beside the same in C; measures the stack that its calls use; and writes docs/PERFORMANCE.md. hosts/bench/run.sh builds and runs it:
  * bench PAGE FACTS SIZES SYMBOLS PROGRAMS FOLDER
  */
 #define _GNU_SOURCE
@@ -643,6 +643,108 @@ static void time_hex(int round)
     }
 }
 
+/* ---- chains of dumps */
+
+static uint8_t entries[KEEPER_ENTRIES_LIMIT * KEEPER_ENTRY_SIZE];
+static uint8_t places[KEEPER_ENTRIES_LIMIT];
+static size_t entry_count;
+
+/* As an engineer would write it in C: the same searches, by memcmp. */
+static uint32_t plain_chain_order(void)
+{
+    uint8_t order[KEEPER_ENTRIES_LIMIT];
+    size_t n = entry_count, first = n, i, j, k;
+#define PREVIOUS(e) (entries + KEEPER_ENTRY_SIZE * (e))
+#define OWN(e) (PREVIOUS(e) + KEEPER_TAG_SIZE)
+    for (i = 0; i < n; i++)
+        for (j = 0; j < i; j++)
+            if (memcmp(OWN(i), OWN(j), KEEPER_TAG_SIZE) == 0)
+                return KEEPER_NO_ORDER;
+    for (i = 0; i < n && first == n; i++) {
+        for (j = 0; j < n && memcmp(PREVIOUS(i), OWN(j), KEEPER_TAG_SIZE) != 0; j++)
+            ;
+        if (j == n)
+            first = i;
+    }
+    for (i = first, k = 0; k < n; k++) {
+        if (i == n)
+            return KEEPER_NO_ORDER;
+        order[k] = i;
+        for (j = 0; j < n && memcmp(PREVIOUS(j), OWN(i), KEEPER_TAG_SIZE) != 0; j++)
+            ;
+        i = j;
+    }
+    memcpy(places, order, n);
+    return 0;
+}
+
+static uint32_t chain_order(void)
+{
+    return keeper_chain_order(entries, entry_count * KEEPER_ENTRY_SIZE, places, sizeof places);
+}
+
+static const struct {
+    const char *name;
+    uint32_t (*call)(void);
+} sorters[] = {{"Godwitshelf", chain_order}, {"the same searches in C, by `memcmp`", plain_chain_order}};
+
+/* The tag of a checkpoint by its number. Tags differ in their last bytes alone. */
+static void put_tag(uint8_t *to, uint32_t number)
+{
+    memset(to, 0x5a, KEEPER_TAG_SIZE);
+    memcpy(to + KEEPER_TAG_SIZE - sizeof number, &number, sizeof number);
+}
+
+/* Entries that take long: a chain that stands the wrong way around; and all but the last name the last, so that there is no order. */
+enum { BACKWARDS, ALL_NAME_ONE, CHAINS };
+
+static const char *const chain_names[CHAINS] = {"a chain, the last dump first", "all name the last entry: no order"};
+static const size_t entry_counts[] = {8, 16, 32, KEEPER_ENTRIES_LIMIT};
+
+static void fill_entries(int chain, size_t count)
+{
+    entry_count = count;
+    for (size_t i = 0; i < count; i++) {
+        size_t number = count - i;
+        put_tag(PREVIOUS(i), number == 1 ? 0 : chain == BACKWARDS ? number - 1 : 1);
+        put_tag(OWN(i), number);
+    }
+}
+
+static struct times chain_times[CHAINS][COUNT(entry_counts)][COUNT(sorters)];
+
+static double chain_time(uint32_t (*call)(void), uint32_t expected, unsigned calls)
+{
+    int good = 1;
+    double start = now();
+    for (unsigned i = 0; i < calls; i++)
+        good &= call() == expected;
+    double time = (now() - start) / calls;
+    need(good, "another answer to a chain");
+    return time;
+}
+
+static void time_chains(int round)
+{
+    for (int chain = 0; chain < CHAINS; chain++)
+        for (size_t n = 0; n < COUNT(entry_counts); n++)
+            for (size_t s = 0; s < COUNT(sorters); s++) {
+                uint32_t expected = chain == BACKWARDS ? 0 : KEEPER_NO_ORDER;
+                fill_entries(chain, entry_counts[n]);
+                memset(places, 0, sizeof places);
+                need(sorters[s].call() == expected, sorters[s].name);
+                for (size_t k = 0; k < entry_count && chain == BACKWARDS; k++)
+                    need(places[k] == entry_count - 1 - k, sorters[s].name);
+                for (int tries = 0; tries < TRIES; tries++) {
+                    preempted();
+                    double once = chain_time(sorters[s].call, expected, 3);
+                    chain_times[chain][n][s].of[round] = chain_time(sorters[s].call, expected, 1 + 1e6 / once);
+                    if (!preempted())
+                        break;
+                }
+            }
+}
+
 /* ---- the stack: each call runs on one of its own, which is painted first */
 
 #define PAINT 0xa5a5a5a5a5a5a5a5u
@@ -733,6 +835,7 @@ static struct {
     {"keeper_hex_import", import_largest, 0},
     {"keeper_ring_shape", make_rings, 0},
     {"keeper_factory_check", factory_check, 0},
+    {"keeper_chain_order", chain_order, 0},
 };
 
 /* Notes how deep a call goes, and hands on its answer. */
@@ -766,6 +869,8 @@ static void measure_stack(int cipher)
     need(measured(seal_largest) == 0 && measured(open_largest) == 0 && measured(wipe) == 0 && measured(look) == 0, "a call stopped");
     need(measured(export_largest) == 0 && measured(import_largest) == 0, "an export or import stopped");
     need(measured(make_rings) == 0, "a ring was refused");
+    fill_entries(BACKWARDS, KEEPER_ENTRIES_LIMIT);
+    need(measured(chain_order) == 0, "a chain was refused");
     measure_job(save, KEEPER_SAVED);
     restore();
     need(save() == 0, "a save stopped");
@@ -908,12 +1013,33 @@ static void print_hex(void)
     }
 }
 
+static void print_chains(void)
+{
+    out("\n## Chains of dumps\n\n"
+        "Microseconds, best · median · **ratio of the best to ours**. Turns as for sealing; in each round, before the clock starts, both must give\n"
+        "the answer, and the same order. Tags differ in their last bytes alone.\n\n"
+        "| | entries |");
+    for (size_t n = 0; n < COUNT(entry_counts); n++)
+        out(" %zu |", entry_counts[n]);
+    out("\n");
+    columns(2, COUNT(entry_counts));
+    for (int chain = 0; chain < CHAINS; chain++)
+        for (size_t s = 0; s < COUNT(sorters); s++) {
+            out("| %s | %s |", chain_names[chain], sorters[s].name);
+            for (size_t n = 0; n < COUNT(entry_counts); n++) {
+                const struct times *t = chain_times[chain][n];
+                out(" %.2f · %.2f · **%.2f** |", best(&t[s]) / 1e3, median(&t[s]) / 1e3, best(&t[s]) / best(&t[OURS]));
+            }
+            out("\n");
+        }
+}
+
 static void print_depths(void)
 {
     out("\n## Stack\n\n"
         "Bytes that a call writes below its caller's frame, arguments and callees included, at parts of 32,768 bytes and in every phase of a\n"
-        "job, with a key of either length, whichever goes deeper, with an image of 262,144, or at every ring of 4 pages by 4 slots. Measured on a\n"
-        "painted stack, not proved.\n\n"
+        "job, with a key of either length, whichever goes deeper, with an image of 262,144, at every ring of 4 pages by 4 slots, or with\n"
+        "64 entries. Measured on a painted stack, not proved.\n\n"
         "| call | bytes |\n");
     columns(1, 1);
     for (size_t i = 0; i < COUNT(depths); i++)
@@ -985,7 +1111,7 @@ static void print_targets(const char *symbols)
     print_ratio("beyond the targets: the first, with BearSSL compiled with -O3", AES_256, FAST_CT64, 0.5);
     print_ratio("beyond the targets: the second, with BearSSL compiled with -O3", AES_256, FAST_BIG32, 1);
 #endif
-    out("| code and constants of the unit's own calls, all but those for the bench, Intel HEX's two, keeper_ring_shape and keeper_factory_check: under 24 KiB (24,576 bytes) | %ld; "
+    out("| code and constants of the unit's own calls, all but those for the bench, Intel HEX's two, keeper_ring_shape, keeper_factory_check and keeper_chain_order: under 24 KiB (24,576 bytes) | %ld; "
         "with the bench's %ld | %s |\n",
         units, whole, units < 24576 ? "met" : "**not met**");
     out("| no heap | the archive's only undefined symbols: %s | %s |\n", symbols, no_heap(symbols) ? "met" : "**not met**");
@@ -1040,6 +1166,7 @@ int main(int argc, char **argv)
         time_ciphers(round);
         time_calls(round);
         time_hex(round);
+        time_chains(round);
     }
     getloadavg(&load[1], 1);
 
@@ -1076,6 +1203,7 @@ int main(int argc, char **argv)
     print_ciphers(OPEN_ALONE, "Opening, without the key schedule");
     print_calls();
     print_hex();
+    print_chains();
     print_depths();
     print_sizes();
     need(fclose(page) == 0, argv[1]);

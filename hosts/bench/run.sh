@@ -62,7 +62,7 @@ linked() {
 calls=$(nm -g --defined-only $keeper | awk '$2 == "T" { print $3 }')
 bear="br_gcm_init br_gcm_reset br_gcm_aad_inject br_gcm_flip br_gcm_run br_gcm_get_tag br_gcm_check_tag"
 {
-    linked "Godwitshelf, the unit's calls: every call but the bench's" $keeper $(echo "$calls" | grep -v '^keeper_hex_\|^keeper_ring_shape$\|^keeper_factory_check$')
+    linked "Godwitshelf, the unit's calls: every call but the bench's" $keeper $(echo "$calls" | grep -v '^keeper_hex_\|^keeper_ring_shape$\|^keeper_factory_check$\|^keeper_chain_order$')
     linked "Godwitshelf, every call" $keeper $calls
     linked "Godwitshelf, sealing and opening" $keeper keeper_seal keeper_open
     linked "Godwitshelf, Intel HEX" $keeper keeper_hex_export keeper_hex_import

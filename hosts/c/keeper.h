@@ -43,11 +43,11 @@
  * The answers
  * keeper_wipe answers nothing; keeper_advance answers 256 and up or a stop; every other call answers 0 or a stop. A stop changes nothing in
  * the caller's memory. The lowest number that applies is given, but 18 right after 4; at power-up 10 after 13, and after 10 the 4 for a
- * checkpoint that does not fit its half in the longer form; of a text, the lowest that applies to its first bad line.
+ * checkpoint that does not fit its half in the longer form; of a chain 4 after 21; of a text, the lowest that applies to its first bad line.
  *
  * Not proved: time (the costs below are those of the source), and what is left on the stack. Run under memcheck (hosts/constant_time), the
  * calls make no jump and use no address that depends on key, tags, parts or sealed text, but for AES's look-ups in its tables and one jump on
- * whether a tag is right.
+ * whether a tag is right. keeper_chain_order is not meant for secrets: it goes by the tags in its entries, which the FRAM shows to anyone.
  */
 #ifndef KEEPER_H
 #define KEEPER_H
@@ -65,9 +65,9 @@ enum keeper_answer {
     KEEPER_FRAM_SIZE = 2,           /* the length of the FRAM, or of an image to export or import, wrong */
     KEEPER_KEY_NONCE_TAG_SIZE = 3,  /* key neither 16 nor 32, nonce not 12 or tag not 16 bytes; save: `from` neither 16 bytes nor 48 */
     KEEPER_BUFFER_SIZE = 4,         /* a part not a multiple of 4 bytes, above 32,768, or the checkpoint longer than a half; staging, state,
-                                       output or a text buffer too short; a session buffer to be written not 48 bytes; text or associated data
-                                       above 65,536; power-up, after 10: a checkpoint of the older form does not fit its half in the
-                                       longer one */
+                                       output, text or position buffer too short; a session buffer to be written not 48 bytes; text or
+                                       associated data above 65,536; power-up, after 10: a checkpoint of the older form does not fit its half
+                                       in the longer one */
     KEEPER_RING_IN_USE = 5,         /* save with a starting tag: the ring is not blank */
     KEEPER_RING_BLANK = 6,          /* the ring is wholly blank: a new unit, or an erased flash */
     KEEPER_RING_UNREADABLE = 7,     /* the ring is not readable */
@@ -88,6 +88,8 @@ enum keeper_answer {
     KEEPER_PACKET_TOO_LARGE = 18,   /* save: the packet number is above KEEPER_LARGEST_PACKET; tried right after 4 */
     KEEPER_NOT_FIRST_SAVE = 19,     /* factory check: the newest record is not at page 0, slot 0 or names half B, a page is pending, restarts
                                        are not 0, or the head is the older one; tried after 12 */
+    KEEPER_BAD_ENTRIES = 21,        /* chain order: no entries, more than KEEPER_ENTRIES_LIMIT, or a broken one; tried before 4 */
+    KEEPER_NO_ORDER = 22,           /* chain order: the entries have none */
     KEEPER_PAST_LAST_SHAPE = 26,    /* ring shape: the number is past the last of that size */
 
     KEEPER_GOING_ON = 256,          /* keeper_advance: more stores to come */
@@ -103,7 +105,9 @@ enum keeper_size {
     KEEPER_SLOT_SIZE = 16,
     KEEPER_STATE_SIZE = 32768,      /* the least state buffer */
     KEEPER_JOB_SIZE = 64,
-    KEEPER_SESSION_SIZE = 48
+    KEEPER_SESSION_SIZE = 48,
+    KEEPER_ENTRY_SIZE = 32,         /* an entry of a chain */
+    KEEPER_ENTRIES_LIMIT = 64       /* the most of them */
 };
 
 /* The largest packet number: 2^30 - 1. */
@@ -230,6 +234,15 @@ uint32_t keeper_ring_shape(size_t pages, size_t slots, size_t number, uint8_t *r
  */
 uint32_t keeper_factory_check(size_t pages, size_t slots, const uint8_t *ring, size_t ring_len,
                      const uint8_t *fram, size_t fram_len, const uint8_t *key, size_t key_len);
+
+/* Which dump came before which. An entry is 32 bytes, a checkpoint's previous tag and then its own: of a checkpoint as it stands in its half,
+ * bytes 16 to 31 (12 to 27 in the older form) and the last 16. Entries stand one behind the other, 1 to 64 of them, unsorted. Writes their
+ * positions, counted from 0, one byte each, in chain order to the front of `positions`; bytes behind them keep their contents. In a chain order
+ * all own tags differ, the first entry's previous tag is no entry's own tag, and each later one names the entry before it. There is never more
+ * than one; 22 is given exactly if there is none.
+ * Stops: 21, 4, 22. Cost: at most 2 n x n + 2 n times two tags are compared, n being the number of entries.
+ */
+uint32_t keeper_chain_order(const uint8_t *entries, size_t entries_len, uint8_t *positions, size_t positions_len);
 
 /* Zeroes a buffer of any length. Optimisation at link time may drop it where nothing reads the buffer any more. */
 void keeper_wipe(uint8_t *buffer, size_t buffer_len);

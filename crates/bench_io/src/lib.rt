@@ -1,9 +1,12 @@
-// What the bench's programs write: a result to standard output, and why there is none to standard error. And the numbers among their arguments.
+// What the bench's programs write: a result to standard output, and why there is none to standard error. And what they read: numbers among their
+// arguments, and files.
 use libc::STDERR_FILENO;
 use libc::STDOUT_FILENO;
 use stops::Stop;
 use stops::stop_number;
+ghost use mathlib.Core.Path.{_≡_};
 ghost use Prim.Native.Nat.{_+_, _^_, _≤_, _<_};
+ghost use Rattle.io.specs.Counts.{Counts};
 
 // Linux passes no longer argument.
 const ARGUMENT_LIMIT: usize = 131_072;
@@ -71,9 +74,55 @@ pub fn refuse(stop: Stop) {
     complain(b"\n");
 }
 
+// Says that standard output took not all.
+pub fn not_written() {
+    complain(b"standard output could not be written whole\n");
+}
+
 // Writes bytes to standard output, or complains.
 pub fn write_out(bytes: &[u8]) {
     if !io::write_all(STDOUT_FILENO, bytes) {
-        complain(b"standard output could not be written whole\n");
+        not_written();
+    }
+}
+
+// The same to standard output, where a refusal is the answer that was asked for.
+pub fn answer_refused(stop: Stop) {
+    write_out(b"refused ");
+    io::print_decimal(STDOUT_FILENO, stop_number(stop) as u64);
+    write_out(b"\n");
+}
+
+// Whether a file was read, and how many of its bytes are in the buffer: all, or as many as there is room for.
+pub struct Loaded {
+    pub is_read: bool,
+    pub length: usize,
+}
+
+// Says why a file, which is to hold `what`, was not read; the system's reason is in errno.
+pub fn not_read(what: &[u8], path: &[u8]) -> Loaded
+    ensures { λ r. ⌜ r .length ≡ 0 ⌝ }
+{
+    complain(what);
+    os::fail(path);
+    Loaded {
+        is_read: false,
+        length: 0,
+    }
+}
+
+// Reads an open file. That its end was reached, or the buffer's, and no error met on the way, one more read tells.
+pub fn read_open(file: i32, what: &[u8], path: &[u8], buffer: &mut [u8]) -> Loaded
+    ensures { λ r. ⌜ Counts (r .length) (now (buffer .exit)) ⌝ }
+{
+    let length = io::read_full(file, buffer);
+    let mut byte = [0u8; 1];
+    let more = libc::read(file, &mut byte);
+    if (more < 0) | ((more > 0) & (length < buffer.len())) {
+        return not_read(what, path);
+    }
+    Loaded {
+        is_read: true,
+        length,
     }
 }

@@ -7,13 +7,14 @@ use Rattle.octets.specs.Word.{word-at, kind-of, value-of, word}
 use Rattle.sbox.specs.Field.{xtime, times, power, inverse, affine, turned, sub-byte, _•_}
 use Rattle.ring.specs.Ring.{ring-wrong, slot-at, page-at, newest-record, nonce-in, nonce-used, not-newest, is-record, half-named, next-page, used-from, records, filled, alone, followed, reading, read-ring, target-page, target-slot, page-before, record-put}
 use Rattle.ring_shapes.specs.Shapes.{from-slot, from-page, shapes, with-records, ring-of, ring-number, size-wrong, past-last, shape-stop}
+use Rattle.chain.specs.Chain.{tag-at, first-below, entry-with, own-twice, first-entry, place, ends-early, order, entries-wrong, too-short, chain-stop, ordered-by, chain-order}
 use Rattle.stops.specs.Stops.{first-of}
 use Rattle.gcm.specs.Calls.{key-wrong}
 use Rattle.checkpoint.specs.Fram.{fram-wrong, half-length, half-at}
 use Rattle.checkpoint.specs.Checkpoint.{Older, Longer, words, part-wrong, sealed}
 use Rattle.checkpoint.specs.Half.{form-of, kind-at, value-at, open-length, secret-length, stored-restarts, kinds-from, stored-length, good-head}
 use Rattle.checkpoint.proofs.SealedLaws.{length-sealed}
-use Rattle.bench_values.specs.Values.{M13, key, zeros, table, orders, one-save, keys, rings, new-units, Agree, Values}
+use Rattle.bench_values.specs.Values.{M13, key, zeros, table, orders, one-save, keys, rings, new-units, chains, Agree, Values}
 use Rattle.protocol.specs.Operations.{parts-wrong, state-wrong, staging-wrong, packet-wrong, session-wrong, save-restarts, larger, newest-half, from-wrong, stale, ring-lines, save-stop, half-lines, power-up-stop, look-stop}
 use Rattle.protocol.specs.Journal.{stores-of, erase-if}
 use Rattle.factory.specs.Factory.{not-first, factory-stop}
@@ -52,6 +53,10 @@ new-units-agree : Agree new-units
 unfolding read-ring reading used-from alone followed filled records is-record half-named next-page page-at blank part number word-at kind-of value-of look-stop newest-half newest-record slot-at half-at form-of good-head kinds-from kind-at value-at open-length secret-length stored-restarts stored-length first-of ring-wrong fram-wrong half-length key-wrong factory-stop not-first
 new-units-agree = rw (zeros-long 16, zeros-long 24, zeros-long 32)
 
+chains-agree : Agree chains
+unfolding chain-order ordered-by chain-stop entries-wrong too-short own-twice ends-early order place first-entry entry-with first-below tag-at part put same first-of
+chains-agree = rw (zeros-long 2048, zeros-long 2049, zeros-long 2080)
+
 pub values : Values
 unfolding Values
-values = (table-agrees, orders-agree, one-save-agrees, keys-agree, rings-agree, new-units-agree)
+values = (table-agrees, orders-agree, one-save-agrees, keys-agree, rings-agree, new-units-agree, chains-agree)

@@ -1,6 +1,6 @@
 -- Document 01's bench values M1 to M13 (its section "Bench values"), as lists: what the definitions give, beside what document 01 says;
--- M13 for both forms of a head, document 01's and document 02's (A.2); the bounds of A.2 and A.5, the order of A.6, the one save of A.7, the key lengths of A.8, the rings of A.9, and
--- what A.10 refuses.
+-- M13 for both forms of a head, document 01's and document 02's (A.2); the bounds of A.2 and A.5, the order of A.6, the one save of A.7, the key lengths of A.8, the rings of A.9,
+-- what A.10 refuses, and chains of A.11.
 use Prim.Native.Nat.{ℕ, _/_}
 use mathlib.Core.Path.{_≡_}
 use mathlib.Core.Bool.{Bool, true, false, not}
@@ -12,6 +12,7 @@ use Rattle.octets.specs.Octets.{erased}
 use Rattle.sbox.specs.Field.{xtime, sub-byte}
 use Rattle.ring.specs.Ring.{Newest, Blank, Unreadable, At, AtPending, is-record, half-named, read-ring, target-page, target-slot}
 use Rattle.ring_shapes.specs.Shapes.{R, ring-number, shape-stop}
+use Rattle.chain.specs.Chain.{chain-stop, chain-order}
 use Rattle.checkpoint.specs.Checkpoint.{Form, Older, Longer, Checkpoint, head-words, words, sealed}
 use Rattle.checkpoint.specs.Half.{good-head}
 use Rattle.protocol.specs.Types.{Firmware, first-firmware, packet-firmware, larger-firmware, half-first-firmware, this-firmware, Session}
@@ -407,8 +408,45 @@ new-units =
     (no-first (At 0 0) 0 Longer 1, wrong true) ∷
     (no-first (At 0 0) 0 Older 0, wrong true) ∷ []
 
+-- ---- the chains of document 02, A.11
+
+-- an entry with tags of sixteen times the same byte
+abbrev entry : (previous own : ℕ) → List ℕ
+entry previous own = replicate 16 previous ++ replicate 16 own
+
+-- what the call leaves in a buffer of four bytes 9
+abbrev sorts : List ℕ → Value
+sorts E = holds (chain-order E (replicate 4 9) .positions)
+
+-- what it stops with, given a buffer of so many bytes
+abbrev sorting : List ℕ → ℕ → Value
+sorting E n = stops (chain-stop E (replicate n 9))
+
+abbrev pub chains : List (Value × Value)
+chains =
+    (sorts (entry 1 2), holds (0 ∷ 9 ∷ 9 ∷ 9 ∷ [])) ∷
+    (sorts (entry 1 2 ++ entry 2 3), holds (0 ∷ 1 ∷ 9 ∷ 9 ∷ [])) ∷
+    (sorts (entry 2 3 ++ entry 1 2), holds (1 ∷ 0 ∷ 9 ∷ 9 ∷ [])) ∷
+    (sorts (entry 3 4 ++ entry 1 2 ++ entry 2 3), holds (1 ∷ 2 ∷ 0 ∷ 9 ∷ [])) ∷
+    (sorts (entry 1 2 ++ entry 2 1), holds (9 ∷ 9 ∷ 9 ∷ 9 ∷ [])) ∷
+    (sorting (entry 1 2 ++ entry 2 3) 2, stops none) ∷
+    (sorting (entry 1 1) 4, stops (some 22)) ∷
+    (sorting (entry 1 2 ++ entry 2 1) 4, stops (some 22)) ∷
+    (sorting (entry 1 2 ++ entry 4 5 ++ entry 5 4) 4, stops (some 22)) ∷
+    (sorting (entry 1 2 ++ entry 3 4) 4, stops (some 22)) ∷
+    (sorting (entry 1 2 ++ entry 1 3) 4, stops (some 22)) ∷
+    (sorting (entry 1 2 ++ entry 2 2) 4, stops (some 22)) ∷
+    (sorting (entry 1 2 ++ entry 2 3 ++ entry 2 4) 4, stops (some 22)) ∷
+    (sorting (entry 1 2 ++ entry 2 1) 1, stops (some 4)) ∷
+    (sorting [] 4, stops (some 21)) ∷
+    (sorting (replicate 31 7) 4, stops (some 21)) ∷
+    (sorting (replicate 33 7) 0, stops (some 21)) ∷
+    (sorting (zeros 2048) 63, stops (some 4)) ∷
+    (sorting (zeros 2049) 64, stops (some 21)) ∷
+    (sorting (zeros 2080) 65, stops (some 21)) ∷ []
+
 abbrev pub Agree : List (Value × Value) → Type 0
 Agree rows = map (λ v. v .0) rows ≡ map (λ v. v .1) rows
 
 unfoldable pub Values : Type 0
-Values = Agree table × Agree orders × Agree one-save × Agree keys × Agree rings × Agree new-units
+Values = Agree table × Agree orders × Agree one-save × Agree keys × Agree rings × Agree new-units × Agree chains

@@ -1,19 +1,20 @@
 // Checks what the assembly house programs (document 02, A.10). The arguments are the ring's pages and slots and the names of three files with
 // the bytes of the ring, of the FRAM and of the key. It writes `accepted`, or `refused` with the stop's number. Where a file cannot be read,
 // nothing is checked, and standard error says which and why. The exit status does not tell.
+use bench_io::Loaded;
+use bench_io::answer_refused;
 use bench_io::complain;
+use bench_io::not_read;
 use bench_io::number_argument;
+use bench_io::read_open;
 use bench_io::write_out;
 use factory::factory_check;
-use libc::STDOUT_FILENO;
 use octets::limits::FRAM_LIMIT;
 use octets::limits::LONG_KEY;
 use octets::limits::PAGES_LIMIT;
 use octets::limits::SLOT_LENGTH;
 use octets::limits::SLOTS_LIMIT;
 use stops::Check;
-use stops::stop_number;
-ghost use mathlib.Core.Path.{_≡_};
 ghost use Rattle.io.specs.Counts.{Counts};
 
 // One byte more than each may have, so that a longer file is seen to be longer.
@@ -22,40 +23,6 @@ const RING_ROOM: usize = SLOT_LENGTH * PAGES_LIMIT * SLOTS_LIMIT + 1;
 const FRAM_ROOM: usize = FRAM_LIMIT + 1;
 
 const KEY_ROOM: usize = LONG_KEY + 1;
-
-// Whether a file was read, and how many of its bytes are in the buffer: all, or as many as there is room for.
-struct Loaded {
-    is_read: bool,
-    length: usize,
-}
-
-// Says why a file, which is to hold `what`, was not read; the system's reason is in errno.
-fn not_read(what: &[u8], path: &[u8]) -> Loaded
-    ensures { λ r. ⌜ r .length ≡ 0 ⌝ }
-{
-    complain(what);
-    os::fail(path);
-    Loaded {
-        is_read: false,
-        length: 0,
-    }
-}
-
-// Reads an open file. That its end was reached, or the buffer's, and no error met on the way, one more read tells.
-fn read_open(file: i32, what: &[u8], path: &[u8], buffer: &mut [u8]) -> Loaded
-    ensures { λ r. ⌜ Counts (r .length) (now (buffer .exit)) ⌝ }
-{
-    let length = io::read_full(file, buffer);
-    let mut byte = [0u8; 1];
-    let more = libc::read(file, &mut byte);
-    if (more < 0) | ((more > 0) & (length < buffer.len())) {
-        return not_read(what, path);
-    }
-    Loaded {
-        is_read: true,
-        length,
-    }
-}
 
 // Reads the file that argument i names.
 fn load(i: usize, what: &[u8], buffer: &mut [u8]) -> Loaded
@@ -79,11 +46,7 @@ fn load(i: usize, what: &[u8], buffer: &mut [u8]) -> Loaded
 fn say(check: Check) {
     match check {
         Check::Pass => write_out(b"accepted\n"),
-        Check::Stopped(stop) => {
-            write_out(b"refused ");
-            io::print_decimal(STDOUT_FILENO, stop_number(stop) as u64);
-            write_out(b"\n");
-        }
+        Check::Stopped(stop) => answer_refused(stop),
     }
 }
 

@@ -2,6 +2,7 @@
 // document 01's number of its stop, and a stop changes nothing behind a pointer.
 mod calls;
 mod cipher;
+mod dumps;
 mod hex;
 mod new_units;
 mod shapes;
@@ -12,6 +13,7 @@ pub use calls::keeper_look;
 pub use cipher::keeper_open;
 pub use cipher::keeper_seal;
 pub use cipher::keeper_wipe;
+pub use dumps::keeper_chain_order;
 pub use hex::keeper_hex_export;
 pub use hex::keeper_hex_import;
 pub use new_units::keeper_factory_check;

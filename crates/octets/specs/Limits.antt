@@ -1,7 +1,7 @@
 -- The limits and lengths of documents 01 and 02, each named here and, if the code needs it, in src/limits.rt. Elsewhere in the libraries one of
 -- them stands as a numeral only in the types of arrays (a nonce of 12 bytes, a tag or a slot of 16), in Layout.antt of checkpoint, which
 -- gives the papers' offsets as numbers of their own, in Older.antt and Keys.antt of protocol, which write document 01's lists out with its
--- limits and say which lengths of keys are taken, in Each.antt of ring_shapes, which says which sizes are taken there, where aes_key, aes and
+-- limits and say which lengths of keys are taken, in Each.antt of ring_shapes and Exactly.antt of chain, which say which sizes are taken there, where aes_key, aes and
 -- gcm have the standards' numbers, and in Format.antt of intel_hex, which has that format's.
 -- Lengths are in bytes; a word is 4.
 use Prim.Native.Nat.{ℕ}
@@ -103,3 +103,10 @@ shape-pages-limit = 4
 
 abbrev pub shape-slots-limit : ℕ
 shape-slots-limit = 4
+
+-- ---- entries of a chain of dumps (document 02, A.11): the length of one, and how many there may be
+abbrev pub entry-length : ℕ
+entry-length = 32
+
+abbrev pub entries-limit : ℕ
+entries-limit = 64

@@ -48,3 +48,8 @@ pub const TRACE_LIMIT: usize = 4096;
 pub const SHAPE_PAGES_LIMIT: usize = 4;
 
 pub const SHAPE_SLOTS_LIMIT: usize = 4;
+
+// Entries of a chain of dumps.
+pub const ENTRY_LENGTH: usize = 32;
+
+pub const ENTRIES_LIMIT: usize = 64;

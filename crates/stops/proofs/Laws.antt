@@ -10,7 +10,7 @@ use lib.ListN.{getD}
 use Rattle.stops.specs.Stops.{first-of, then-stop}
 use Rattle.stops.specs.View.{stop-number}
 use Rattle.stops.specs.declared.Stop.{Stop}
-use Rattle.stops.specs.declared.Stop.the-variants.{RingSize, FramSize, KeyNonceTagSize, BufferSize, RingInUse, RingBlank, RingUnreadable, StaleSession, PagePending, NonceUsed, BadHead, TagDiffers, RestartLimit, BadJob, BadLine, BadChecksum, DataMisplaced, PacketTooLarge, NotFirstSave, BadTrace, PastLastShape}
+use Rattle.stops.specs.declared.Stop.the-variants.{RingSize, FramSize, KeyNonceTagSize, BufferSize, RingInUse, RingBlank, RingUnreadable, StaleSession, PagePending, NonceUsed, BadHead, TagDiffers, RestartLimit, BadJob, BadLine, BadChecksum, DataMisplaced, PacketTooLarge, NotFirstSave, BadTrace, BadEntries, NoOrder, PastLastShape}
 
 -- the conditions of a list tried in turn, from what was found before them
 unfoldable pub tried : Option ℕ → List (ℕ × Bool) → Option ℕ
@@ -100,12 +100,12 @@ pub or-false : (a : Bool) → a || false ≡ a
 or-false true = refl
 or-false false = refl
 
--- the stops in the order of their numbers, from 1 on; 21 to 25 are none's, and the first stands in their places: no two have one number
+-- the stops in the order of their numbers, from 1 on; 23 to 25 are none's, and the first stands in their places: no two have one number
 stops : List Stop
 stops =
     RingSize ∷ FramSize ∷ KeyNonceTagSize ∷ BufferSize ∷ RingInUse ∷ RingBlank ∷ RingUnreadable ∷ StaleSession ∷ PagePending ∷ NonceUsed
     ∷ BadHead ∷ TagDiffers ∷ RestartLimit ∷ BadJob ∷ BadLine ∷ BadChecksum ∷ DataMisplaced ∷ PacketTooLarge ∷ NotFirstSave ∷ BadTrace
-    ∷ RingSize ∷ RingSize ∷ RingSize ∷ RingSize ∷ RingSize ∷ PastLastShape ∷ []
+    ∷ BadEntries ∷ NoOrder ∷ RingSize ∷ RingSize ∷ RingSize ∷ PastLastShape ∷ []
 
 stop-of : ℕ → Stop
 stop-of n = getD stops (n - 1) RingSize
@@ -132,6 +132,8 @@ back DataMisplaced = refl
 back PacketTooLarge = refl
 back NotFirstSave = refl
 back BadTrace = refl
+back BadEntries = refl
+back NoOrder = refl
 back PastLastShape = refl
 
 pub stop-number-injective : (s t : Stop) → stop-number s ≡ stop-number t → s ≡ t
@@ -159,4 +161,6 @@ stop-number-short DataMisplaced = lit< tt
 stop-number-short PacketTooLarge = lit< tt
 stop-number-short NotFirstSave = lit< tt
 stop-number-short BadTrace = lit< tt
+stop-number-short BadEntries = lit< tt
+stop-number-short NoOrder = lit< tt
 stop-number-short PastLastShape = lit< tt

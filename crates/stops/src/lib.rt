@@ -25,6 +25,8 @@ pub enum Stop {
     PacketTooLarge,
     NotFirstSave,
     BadTrace,
+    BadEntries,
+    NoOrder,
     PastLastShape,
 }
 
@@ -59,6 +61,8 @@ pub fn stop_number(stop: Stop) -> u32
         Stop::PacketTooLarge => 18,
         Stop::NotFirstSave => 19,
         Stop::BadTrace => 20,
+        Stop::BadEntries => 21,
+        Stop::NoOrder => 22,
         Stop::PastLastShape => 26,
     }
 }

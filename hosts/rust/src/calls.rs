@@ -58,6 +58,7 @@ extern "C" {
     fn keeper_ring_shape(pages: usize, slots: usize, number: usize, ring: *mut u8, ring_len: usize) -> u32;
     fn keeper_factory_check(pages: usize, slots: usize, ring: *const u8, ring_len: usize,
         fram: *const u8, fram_len: usize, key: *const u8, key_len: usize) -> u32;
+    fn keeper_chain_order(entries: *const u8, entries_len: usize, positions: *mut u8, positions_len: usize) -> u32;
     fn keeper_wipe(buffer: *mut u8, buffer_len: usize);
 }
 
@@ -160,6 +161,12 @@ pub fn factory_check(sizes: Sizes, ring: &[u8], fram: &[u8], key: &[u8]) -> u32 
         keeper_factory_check(sizes.pages, sizes.slots, ring.as_ptr(), ring.len(), fram.as_ptr(), fram.len(),
             key.as_ptr(), key.len())
     }
+}
+
+/// Writes the positions of `entries` in chain order to the front of `positions`.
+pub fn chain_order(entries: &[u8], positions: &mut [u8]) -> u32 {
+    // Sound: see the top of this file.
+    unsafe { keeper_chain_order(entries.as_ptr(), entries.len(), positions.as_mut_ptr(), positions.len()) }
 }
 
 /// Zeroes a buffer of any length.

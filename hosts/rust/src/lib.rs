@@ -28,7 +28,8 @@
 //!
 //! [`hex_export`] and [`hex_import`] carry an image of either memory to a programmer and back, as Intel HEX;
 //! [`ring_shape`] makes every shape of a readable ring of a small size, for trying units at the bench; [`factory_check`]
-//! accepts exactly the memories that a first save leaves, for checking what an assembly house programs.
+//! accepts exactly the memories that a first save leaves, for checking what an assembly house programs; [`chain_order`]
+//! sorts dumps of checkpoints by their tags.
 //!
 //! The code behind these calls is proved. This crate hands slices on as they are, and has no checks of its own.
 //!
@@ -452,6 +453,60 @@ pub fn ring_shape(sizes: Sizes, number: usize, ring: &mut [u8]) -> Result<(), St
 /// ```
 pub fn factory_check(sizes: Sizes, ring: &[u8], fram: &[u8], key: &[u8]) -> Result<(), Stop> {
     done(calls::factory_check(sizes, ring, fram, key))
+}
+
+/// Which dump came before which: the positions of checkpoints in the order in which they were made.
+///
+/// An entry is 32 bytes, a checkpoint's previous tag and then its own: of a checkpoint as it stands in its half, bytes 16 to
+/// 31 (12 to 27 in the older form) and the last 16. Entries stand one behind the other, 1 to 64 of them, unsorted. Their
+/// positions, counted from 0, one byte each, go in chain order to the front of `positions`; its bytes behind them keep their
+/// contents. In a chain order all own tags differ, the first entry's previous tag is no entry's own tag, and each later one
+/// names the entry before it. There is never more than one.
+///
+/// The time grows with the square of the number of entries: at most 2 n² + 2 n times two tags are compared.
+///
+/// # Errors
+///
+/// [`Stop::BadEntries`], then [`Stop::BufferSize`], then [`Stop::NoOrder`], which is given exactly if there is no such order.
+///
+/// # Three checkpoints of a unit, and two of them
+///
+/// ```
+/// use godwitshelf::*;
+///
+/// # fn main() -> Result<(), Stop> {
+/// let sizes = Sizes { pages: 3, slots: 2 };
+/// let mut ring = [0xFF; 16 * 3 * 2];
+/// let mut fram = [0; 256];
+/// let mut staging = [0; 128];
+/// let mut from = Follows::StartingTag(&[9; 16]);
+/// let mut session;
+/// let mut dumps = Vec::new();
+/// for n in 1..=3 {
+///     let mut job = save(sizes, &ring, &fram, &[7; 16], &[n; 12], from, n.into(), b"volume 3", b"timer 00", &mut staging)?;
+///     session = loop {
+///         if let Progress::Saved(session) = advance(sizes, &mut ring, &mut fram, &staging, &mut job)? {
+///             break session;
+///         }
+///     };
+///     from = Follows::Session(&session);
+///     // The checkpoint is 64 bytes.
+///     dumps.push([&staging[16..32], &staging[48..64]].concat());
+/// }
+///
+/// let mut positions = [0xFF; 4];
+/// let entries = [&dumps[1][..], &dumps[2], &dumps[0]].concat();
+/// assert_eq!(chain_order(&entries, &mut positions), Ok(()));
+/// assert_eq!(positions, [2, 0, 1, 0xFF]);
+///
+/// // One is missing between these two.
+/// let entries = [&dumps[2][..], &dumps[0]].concat();
+/// assert_eq!(chain_order(&entries, &mut positions), Err(Stop::NoOrder));
+/// # Ok(())
+/// # }
+/// ```
+pub fn chain_order(entries: &[u8], positions: &mut [u8]) -> Result<(), Stop> {
+    done(calls::chain_order(entries, positions))
 }
 
 /// Zeroes a buffer of any length.

@@ -2,8 +2,8 @@ use std::error::Error;
 use std::fmt;
 
 /// Why a call stopped. The conditions are tried in the order of their numbers, those that name the call only, but 18 right
-/// after 4, 15 to 17 line by line, and at power-up 10 after 13, and then whether what it seals anew fits the half (4); the
-/// first that applies is answered, and no buffer changes.
+/// after 4, 4 of a [`chain_order`](crate::chain_order) after 21, 15 to 17 line by line, and at power-up 10 after 13, and then
+/// whether what it seals anew fits the half (4); the first that applies is answered, and no buffer changes.
 #[derive(Clone, Copy, Debug, PartialEq, Eq, Hash, PartialOrd, Ord)]
 #[repr(u32)]
 pub enum Stop {
@@ -15,8 +15,8 @@ pub enum Stop {
     /// 16 bytes nor 48.
     KeyNonceTagSize,
     /// 4: a part not a multiple of 4 bytes, above 32,768, or the checkpoint longer than a half; staging, state, output or
-    /// an export's text buffer too short; text or associated data above 65,536 bytes; a checkpoint of the older form that
-    /// does not fit its half in the longer one.
+    /// an export's text buffer too short; fewer bytes for positions than entries; text or associated data above 65,536
+    /// bytes; a checkpoint of the older form that does not fit its half in the longer one.
     BufferSize,
     /// 5: the ring is not blank, and the save has a starting tag.
     RingInUse,
@@ -50,13 +50,17 @@ pub enum Stop {
     /// 19: the newest record is not at page 0, slot 0 or names half B, a page is pending, restarts are not 0, or the head is
     /// the older one.
     NotFirstSave,
+    /// 21: no entries, more than 64, or a broken one.
+    BadEntries = 21,
+    /// 22: the entries have no chain order.
+    NoOrder,
     /// 26: the number is past the last ring of that size.
     PastLastShape = 26,
 }
 
 impl Stop {
     /// Every stop, by its number.
-    pub const ALL: [Stop; 20] = [
+    pub const ALL: [Stop; 22] = [
         Stop::RingSize,
         Stop::FramSize,
         Stop::KeyNonceTagSize,
@@ -76,10 +80,12 @@ impl Stop {
         Stop::DataMisplaced,
         Stop::PacketTooLarge,
         Stop::NotFirstSave,
+        Stop::BadEntries,
+        Stop::NoOrder,
         Stop::PastLastShape,
     ];
 
-    /// The stop's number, 1 to 19 or 26.
+    /// The stop's number, 1 to 19, 21, 22 or 26.
     pub const fn number(self) -> u32 {
         self as u32
     }
@@ -98,7 +104,7 @@ impl Stop {
             }
             Stop::BufferSize => {
                 "a part not a multiple of 4 bytes, above 32,768, or the checkpoint longer than a half; \
-                 staging, state, output or text buffer too short; text or associated data above 65,536"
+                 staging, state, output, text or position buffer too short; text or associated data above 65,536"
             }
             Stop::RingInUse => "ring not blank",
             Stop::RingBlank => "ring wholly blank",
@@ -126,6 +132,8 @@ impl Stop {
             Stop::NotFirstSave => {
                 "newest not page 0, slot 0, half A, a page pending, restarts not 0, or the older head"
             }
+            Stop::BadEntries => "no entries, more than 64, or a broken one",
+            Stop::NoOrder => "no chain order",
             Stop::PastLastShape => "number past the last ring of that size",
         }
     }
@@ -144,10 +152,10 @@ mod tests {
     use super::*;
 
     #[test]
-    fn numbers_are_1_to_19_and_26_and_lead_back() {
+    fn numbers_are_the_documents_and_lead_back() {
         for number in 0..300 {
             let stop = Stop::from_number(number);
-            assert_eq!(stop.map(Stop::number), matches!(number, 1..=19 | 26).then_some(number));
+            assert_eq!(stop.map(Stop::number), matches!(number, 1..=19 | 21 | 22 | 26).then_some(number));
         }
     }
 

@@ -91,7 +91,7 @@ fn every_answer(key_length: usize, call: Operation) -> &'static [u32] {
 
 // Making a history from a seed.
 
-fn generated(seed: u64) -> History {
+pub fn generated(seed: u64) -> History {
     let mut random = Random::new(seed);
     let key_length = random.pick(KEEPER.key_lengths);
     // Older firmware does nothing with a key of 16 bytes, so that few such units begin with it.

@@ -110,9 +110,15 @@ impl History {
     /// Runs the events. After each, and after each single advance, a power-up is tried on a copy. An error has the number
     /// of the event.
     pub fn run(&self) -> Result<(), (usize, String)> {
+        self.run_seen(|_| ())
+    }
+
+    /// The same, with the unit shown after each event.
+    pub fn run_seen(&self, mut see: impl FnMut(&Unit)) -> Result<(), (usize, String)> {
         let mut unit = Unit::new(&self.setup);
         for (i, event) in self.events.iter().enumerate() {
             event.happen(&mut unit).map_err(|words| (i + 1, words))?;
+            see(&unit);
         }
         Ok(())
     }

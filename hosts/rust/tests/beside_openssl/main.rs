@@ -1,5 +1,5 @@
 //! The keeper beside OpenSSL: every answer and every lent byte is compared with what document 01 and document 02's A.2 and
-//! A.5 to A.10 say, worked out here anew over OpenSSL's AES-128-GCM and AES-256-GCM; of A.4's, A.9's and A.10's programs,
+//! A.5 to A.11 say, worked out here anew over OpenSSL's AES-128-GCM and AES-256-GCM; of A.4's and A.9's to A.11's programs,
 //! what they print. Nothing in this folder uses the keeper to say what the keeper should do. The older firmwares, which a unit may
 //! have had before, are worked out here likewise, from the documents up to them.
 
@@ -17,6 +17,7 @@ macro_rules! for_each_key_length {
 
 mod book;
 mod by_hand;
+mod chain;
 mod checkpoints;
 mod compare;
 mod cuts;

@@ -1,0 +1,6 @@
+-- Laws of chains of dumps.
+pub mod Search
+pub mod Pigeons
+pub mod Orders
+pub mod CallLaws
+pub mod Exactly

@@ -1,0 +1,3 @@
+-- Which dump came before which.
+pub mod Chain
+pub mod Exactly
