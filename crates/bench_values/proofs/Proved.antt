@@ -14,7 +14,7 @@ use Rattle.checkpoint.specs.Fram.{fram-wrong, half-length, half-at}
 use Rattle.checkpoint.specs.Checkpoint.{Older, Longer, words, part-wrong, sealed}
 use Rattle.checkpoint.specs.Half.{form-of, kind-at, value-at, open-length, secret-length, stored-restarts, kinds-from, stored-length, good-head}
 use Rattle.checkpoint.proofs.SealedLaws.{length-sealed}
-use Rattle.bench_values.specs.Values.{M13, key, zeros, table, orders, one-save, keys, rings, new-units, chains, Agree, Values}
+use Rattle.bench_values.specs.Values.{M13, key, zeros, table, orders, one-save, keys, rings, new-units, chains, many-entries, Agree, Values}
 use Rattle.protocol.specs.Operations.{parts-wrong, state-wrong, staging-wrong, packet-wrong, session-wrong, save-restarts, larger, newest-half, from-wrong, stale, ring-lines, save-stop, half-lines, power-up-stop, look-stop}
 use Rattle.protocol.specs.Journal.{stores-of, erase-if}
 use Rattle.factory.specs.Factory.{not-first, factory-stop}
@@ -55,8 +55,12 @@ new-units-agree = rw (zeros-long 16, zeros-long 24, zeros-long 32)
 
 chains-agree : Agree chains
 unfolding chain-order ordered-by chain-stop entries-wrong too-short own-twice ends-early order place first-entry entry-with first-below tag-at part put same first-of
-chains-agree = rw (zeros-long 2048, zeros-long 2049, zeros-long 2080)
+chains-agree = refl
+
+many-entries-agree : Agree many-entries
+unfolding chain-stop entries-wrong too-short first-of
+many-entries-agree = rw (zeros-long 2048, zeros-long 2049, zeros-long 2080)
 
 pub values : Values
 unfolding Values
-values = (table-agrees, orders-agree, one-save-agrees, keys-agree, rings-agree, new-units-agree, chains-agree)
+values = (table-agrees, orders-agree, one-save-agrees, keys-agree, rings-agree, new-units-agree, chains-agree, many-entries-agree)

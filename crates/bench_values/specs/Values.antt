@@ -440,7 +440,10 @@ chains =
     (sorting (entry 1 2 ++ entry 2 1) 1, stops (some 4)) ∷
     (sorting [] 4, stops (some 21)) ∷
     (sorting (replicate 31 7) 4, stops (some 21)) ∷
-    (sorting (replicate 33 7) 0, stops (some 21)) ∷
+    (sorting (replicate 33 7) 0, stops (some 21)) ∷ []
+
+abbrev pub many-entries : List (Value × Value)
+many-entries =
     (sorting (zeros 2048) 63, stops (some 4)) ∷
     (sorting (zeros 2049) 64, stops (some 21)) ∷
     (sorting (zeros 2080) 65, stops (some 21)) ∷ []
@@ -449,4 +452,4 @@ abbrev pub Agree : List (Value × Value) → Type 0
 Agree rows = map (λ v. v .0) rows ≡ map (λ v. v .1) rows
 
 unfoldable pub Values : Type 0
-Values = Agree table × Agree orders × Agree one-save × Agree keys × Agree rings × Agree new-units × Agree chains
+Values = Agree table × Agree orders × Agree one-save × Agree keys × Agree rings × Agree new-units × Agree chains × Agree many-entries

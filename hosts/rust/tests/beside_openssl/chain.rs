@@ -3,14 +3,15 @@
 //! order exists". Dumps of the keeper's own checkpoints are put back into the order in which they were made; of few entries
 //! every order is tried.
 
+use crate::by_hand::{lent, made};
+use crate::firmware::{Firmware, KEEPER};
 use crate::histories::generated;
 use crate::layout::{half_of, open_half, read_ring, Reading};
-use crate::operations::DONE;
+use crate::operations::{Lent, Operation, DONE};
 use crate::program::program;
 use crate::random::Random;
-use crate::unit::Unit;
 use godwitshelf::{calls, chain_order, Stop};
-use std::collections::BTreeMap;
+use std::collections::{BTreeMap, BTreeSet};
 use std::io::Write as _;
 use std::process::{Command, Stdio};
 
@@ -72,12 +73,13 @@ fn made_up(count: usize, random: &mut Random) -> Vec<Entry> {
 
 // Dumps of the keeper's own.
 
-/// The entry of the newest checkpoint, out of the unit's memories.
-fn dumped(unit: &Unit) -> Entry {
-    let lent = &unit.lent;
+for_each_key_length!(dumps_of_long_lives);
+
+/// The entry of the newest checkpoint, out of the memories that a firmware left.
+fn dumped(firmware: Firmware, lent: &Lent) -> Entry {
     let Reading::Newest(newest) = read_ring(lent.pages, lent.slots, &lent.ring) else { panic!("nothing recorded") };
     let half = half_of(&lent.fram, newest.half);
-    let (checkpoint, own) = open_half(unit.firmware, half, &lent.key, &newest.record[..12]).unwrap();
+    let (checkpoint, own) = open_half(firmware, half, &lent.key, &newest.record[..12]).unwrap();
     Entry { previous: checkpoint.previous_tag, own }
 }
 
@@ -87,41 +89,67 @@ fn dumps(seed: u64) -> Vec<Entry> {
     let ended = generated(seed).run_seen(|unit| {
         assert!(unit.book.n <= dumps.len() + 1, "two records in one event");
         if unit.book.n > dumps.len() {
-            dumps.push(dumped(unit));
+            dumps.push(dumped(unit.firmware, &unit.lent));
         }
     });
     ended.unwrap_or_else(|(at, words)| panic!("seed {seed}, event {at}: {words}"));
     dumps
 }
 
+/// Dumps that were taken from one checkpoint of a unit up to another, put back in order; and with one missed, or taken twice.
+fn put_back(all: &[Entry], random: &mut Random) {
+    let from = random.below(all.len());
+    let count = 1 + random.below((all.len() - from).min(64));
+    let chain = &all[from..from + count];
+    let (entries, places) = shuffled(chain, random);
+    assert_eq!(sorted(&entries), Ok(places));
+    if count > 2 {
+        let mut gap = chain.to_vec();
+        gap.remove(1 + random.below(count - 2));
+        assert_eq!(sorted(&shuffled(&gap, random).0), Err(NO_ORDER), "one was missed");
+    }
+    if count < 64 {
+        let mut twice = chain.to_vec();
+        twice.push(random.pick(chain));
+        assert_eq!(sorted(&shuffled(&twice, random).0), Err(NO_ORDER), "one was taken twice");
+    }
+}
+
 #[test]
 fn dumps_of_histories() {
     let mut random = Random::new(11);
-    let mut by_length = BTreeMap::new();
+    let mut lengths = BTreeSet::new();
     for seed in 1..=120 {
         let all = dumps(seed);
-        *by_length.entry(all.len()).or_insert(0) += 1;
+        lengths.insert(all.len());
         for _ in 0..if all.is_empty() { 0 } else { 12 } {
-            // Dumps were taken from one checkpoint up to another.
-            let from = random.below(all.len());
-            let count = 1 + random.below((all.len() - from).min(64));
-            let chain = &all[from..from + count];
-            let (entries, places) = shuffled(chain, &mut random);
-            assert_eq!(sorted(&entries), Ok(places), "seed {seed}");
-            if count > 2 {
-                let mut gap = chain.to_vec();
-                gap.remove(1 + random.below(count - 2));
-                assert_eq!(sorted(&shuffled(&gap, &mut random).0), Err(NO_ORDER), "seed {seed}: one was missed");
-            }
-            if count < 64 {
-                let mut twice = chain.to_vec();
-                twice.push(random.pick(chain));
-                assert_eq!(sorted(&shuffled(&twice, &mut random).0), Err(NO_ORDER), "seed {seed}: one was taken twice");
-            }
+            put_back(&all, &mut random);
         }
     }
-    let longest = *by_length.keys().next_back().unwrap();
-    assert!(longest > 30 && by_length.len() > 15, "chains of few lengths: {by_length:?}");
+    assert!((0..=13).all(|length| lengths.contains(&length)), "{lengths:?}");
+}
+
+/// Units that save and are restarted a hundred times, and go around their rings.
+fn dumps_of_long_lives(key_length: usize) {
+    let mut random = Random::new(21);
+    for (pages, slots) in [(3, 2), (4, 3), (3, 16)] {
+        let mut unit = lent(key_length, pages, slots, 128);
+        let mut all = Vec::new();
+        for packet in 1..=100 {
+            let operation = match all.len() {
+                0 => Operation::FirstSave,
+                _ if random.chance(1, 3) => Operation::PowerUp,
+                _ => Operation::Save,
+            };
+            made(operation, &mut unit, packet);
+            all.push(dumped(KEEPER, &unit));
+        }
+        let (entries, places) = shuffled(&all[36..], &mut random);
+        assert_eq!(sorted(&entries), Ok(places));
+        for _ in 0..50 {
+            put_back(&all, &mut random);
+        }
+    }
 }
 
 /// Two units' dumps in one lot.
@@ -418,12 +446,8 @@ fn what_cannot_be_read_or_written() {
     assert!(output.stdout.is_empty());
 
     let full = std::fs::OpenOptions::new().write(true).open("/dev/full").unwrap();
-    let mut child = Command::new(program("chain_view"))
-        .stdin(Stdio::piped())
-        .stdout(full)
-        .stderr(Stdio::piped())
-        .spawn()
-        .unwrap();
+    let mut child =
+        Command::new(program("chain_view")).stdin(Stdio::piped()).stdout(full).stderr(Stdio::piped()).spawn().unwrap();
     child.stdin.take().unwrap().write_all(&bytes_of(&made_up(20, &mut random))).unwrap();
     let output = child.wait_with_output().unwrap();
     assert_eq!(String::from_utf8_lossy(&output.stderr), "standard output could not be written whole\n");
