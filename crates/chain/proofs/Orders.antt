@@ -113,7 +113,7 @@ module _ (E : List ℕ) (differ : own-twice E ≡ false) (long : ends-early E �
   walk-orders = record {
     in-all = length-table (count E) (place E);
     there = λ k h. rw (in-order k h) (place-there k h);
-    once = λ j k hj hk e. walk-once j k hj hk (sym (in-order j hj) ∙ e ∙ in-order k hk);
+    once = λ j k hj hk e. walk-once j k (omega arith) (omega arith) (sym (in-order j (omega arith)) ∙ e ∙ in-order k (omega arith));
     own-differ = own-one;
     first = λ i h e. walk-first i h (ap (previous E) (sym (in-order 0 (omega arith))) ∙ e);
     later = λ k h. ap (previous E) (in-order (suc k) h) ∙ walk-later k h ∙ ap (own E) (sym (in-order k (omega arith)));
@@ -123,7 +123,7 @@ module _ (E : List ℕ) (differ : own-twice E ≡ false) (long : ends-early E �
 
 module _ (E ps : List ℕ) (o : ChainOrder E ps) where
   stands : (q : ℕ) → q < count E → Stands (count E) (nth ps) q
-  stands = each-stands (count E) (nth ps) (record { below = o .there; differ = o .once })
+  stands = each-stands (count E) (nth ps) (record { below = o .there; differ = λ j k hj hk e. o .once j k (omega arith) (omega arith) e })
 
   order-differs : own-twice E ≡ false
   unfolding own-twice

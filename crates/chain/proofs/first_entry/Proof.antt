@@ -5,7 +5,7 @@ use native.Mathlib.Omega.{arith}
 use borrow.Author.Needs.{needs}
 use borrow.Author.Tests.{eq-eqb, ne-eqb}
 use Rattle.octets.specs.Limits.{tag-length}
-use Rattle.chain.specs.Chain.{count, entry-with, first-entry}
+use Rattle.chain.specs.Chain.{count, previous, entry-with, owner, first-entry}
 use Rattle.chain.proofs.Search.{NoneBefore, none-yet, none-more, stops, ends}
 use Rattle.chain.proofs.Orders.{first-test}
 use Rattle.chain.proofs.first_entry.Statement.{statement}
@@ -29,14 +29,14 @@ returns c =
     let loop = c .before .before .before .before in
     let E = loop .before .before .args .entries .now in
     let r = c .before .entry-with .ensures ∙ ap (entry-with E tag-length) (c .before .before .tag-at .ensures) in
-    sym (stops (count E) (first-test E) (loop .loop .i) (loop .loop .inv .1) (omega arith) (eq-eqb _ _ (sym r ∙ c .if1 .taken)))
+    sym (stops (count E) (first-test E) (loop .loop .i) (loop .loop .inv .1) (omega arith) (eq-eqb (owner E (previous E (loop .loop .i))) (count E) (omega (arith, c .if1 .taken, r))))
 
 loop-again : tie.Need-loop-again Inv-loop μ-loop
 loop-again c =
     let loop = c .before .before .before .before in
     let E = loop .before .before .args .entries .now in
     let r = c .before .entry-with .ensures ∙ ap (entry-with E tag-length) (c .before .before .tag-at .ensures) in
-    (omega arith, none-more (first-test E) (loop .loop .i) (loop .loop .inv .1) (ne-eqb _ _ (λ e. c .if1 .left (r ∙ e))))
+    (omega arith, none-more (first-test E) (loop .loop .i) (loop .loop .inv .1) (ne-eqb (owner E (previous E (loop .loop .i))) (count E) (λ e. omega (arith, c .if1 .left, r, e))))
 
 returns-2 : tie.Need-returns-2 Inv-loop μ-loop
 unfolding first-entry

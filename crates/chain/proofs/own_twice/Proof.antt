@@ -1,16 +1,24 @@
 -- `chain::own_twice` meets its contract: each entry before i is the first with its own tag. Assumes nothing.
-use Prim.Native.Nat.{_-_, _≤_}
+use mathlib.Core.List.{List}
+use Prim.Native.Nat.{ℕ, _-_, _≤_}
 use mathlib.Core.Path.{_≡_, refl, sym, ap, _∙_}
 use mathlib.Core.Bool.{not}
 use native.Mathlib.Omega.{arith}
 use borrow.Author.Needs.{needs}
 use borrow.Author.Tests.{eq-eqb, ne-eqb}
 use Rattle.octets.specs.Limits.{tag-length}
-use Rattle.chain.specs.Chain.{count, entry-with, own-twice}
+use Rattle.chain.specs.Chain.{count, own, entry-with, owner, own-twice}
 use Rattle.chain.proofs.Search.{NoneBefore, none-yet, none-more, some-stops, some-ends}
 use Rattle.chain.proofs.Orders.{own-test}
 use Rattle.chain.proofs.own_twice.Statement.{statement}
 use Rattle.chain.proofs.own_twice.Tie as tie
+
+-- the first entry with the own tag of entry i
+abbrev holder : (E : List ℕ) → ℕ → ℕ
+holder E i = owner E (own E i)
+
+is-holder : (E : List ℕ) (i r : ℕ) (tag : List ℕ) → tag ≡ own E i → r ≡ entry-with E tag-length tag → r ≡ holder E i
+is-holder E i r tag t e = e ∙ ap (entry-with E tag-length) t
 
 abbrev Inv-loop : tie.InvT-loop
 Inv-loop entries i₀ i-end i = (i-end ≡ count entries) × (i ≤ i-end) × NoneBefore (own-test entries) i
@@ -29,15 +37,15 @@ unfolding own-twice
 returns c =
     let loop = c .before .before .before .before in
     let E = loop .before .before .args .entries .now in
-    let r = c .before .entry-with .ensures ∙ ap (entry-with E tag-length) (c .before .before .tag-at .ensures) in
-    sym (some-stops (count E) (own-test E) (loop .loop .i) (loop .loop .inv .2) (omega arith) (ap not (ne-eqb _ _ (λ e. c .if1 .taken (r ∙ e)))))
+    let r = is-holder E (loop .loop .i) _ _ (c .before .before .tag-at .ensures) (c .before .entry-with .ensures) in
+    sym (some-stops (count E) (own-test E) (loop .loop .i) (loop .loop .inv .2) (omega arith) (ap not (ne-eqb (holder E (loop .loop .i)) (loop .loop .i) (λ e. omega (arith, c .if1 .taken, r, e)))))
 
 loop-again : tie.Need-loop-again Inv-loop μ-loop
 loop-again c =
     let loop = c .before .before .before .before in
     let E = loop .before .before .args .entries .now in
-    let r = c .before .entry-with .ensures ∙ ap (entry-with E tag-length) (c .before .before .tag-at .ensures) in
-    (refl, omega arith, none-more (own-test E) (loop .loop .i) (loop .loop .inv .2) (ap not (eq-eqb _ _ (sym r ∙ c .if1 .left))))
+    let r = is-holder E (loop .loop .i) _ _ (c .before .before .tag-at .ensures) (c .before .entry-with .ensures) in
+    (refl, omega arith, none-more (own-test E) (loop .loop .i) (loop .loop .inv .2) (ap not (eq-eqb (holder E (loop .loop .i)) (loop .loop .i) (omega (arith, c .if1 .left, r)))))
 
 returns-2 : tie.Need-returns-2 Inv-loop μ-loop
 unfolding own-twice
