@@ -1,6 +1,7 @@
 /*
  * Times the keeper's calls, its sealing and opening beside BearSSL, mbedTLS and OpenSSL, its Intel HEX beside binutils and SRecord,
- * and its chains of dumps beside the same in C; measures the stack that its calls use; and writes docs/PERFORMANCE.md. hosts/bench/run.sh builds and runs it:
+ * and its chains of dumps beside the same in C; measures the stack that its calls use; and writes docs/PERFORMANCE.md. hosts/bench/run.sh
+ * builds and runs it:
  * bench PAGE FACTS SIZES SYMBOLS PROGRAMS FOLDER
  */
 #define _GNU_SOURCE
@@ -698,7 +699,7 @@ static void put_tag(uint8_t *to, uint32_t number)
 /* Entries that take long: a chain that stands the wrong way around; and all but the last name the last, so that there is no order. */
 enum { BACKWARDS, ALL_NAME_ONE, CHAINS };
 
-static const char *const chain_names[CHAINS] = {"a chain, the last dump first", "all name the last entry: no order"};
+static const char *const chain_names[CHAINS] = {"a chain, the last dump first", "all others name the last entry: no order"};
 static const size_t entry_counts[] = {8, 16, 32, KEEPER_ENTRIES_LIMIT};
 
 static void fill_entries(int chain, size_t count)

@@ -1,5 +1,5 @@
 /* The checkpoints of a unit that is saved and restarted in turn, collected as a bench would: one dump after each, kept in another order. A line
- * has the answer for each lot of dumps, and their positions in the order in which they were made. */
+ * has the answer for each set of dumps, and their positions in the order in which they were made. */
 #include "keeper.h"
 
 #include <stdio.h>

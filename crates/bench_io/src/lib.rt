@@ -86,11 +86,14 @@ pub fn write_out(bytes: &[u8]) {
     }
 }
 
-// The same to standard output, where a refusal is the answer that was asked for.
+// As `refuse`, but to standard output, where a refusal is the answer that was asked for.
 pub fn answer_refused(stop: Stop) {
-    write_out(b"refused ");
-    io::print_decimal(STDOUT_FILENO, stop_number(stop) as u64);
-    write_out(b"\n");
+    let words = io::write_all(STDOUT_FILENO, b"refused ");
+    let number = io::print_decimal(STDOUT_FILENO, stop_number(stop) as u64);
+    let end = io::write_all(STDOUT_FILENO, b"\n");
+    if !words | !number | !end {
+        not_written();
+    }
 }
 
 // Whether a file was read, and how many of its bytes are in the buffer: all, or as many as there is room for.

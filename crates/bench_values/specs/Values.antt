@@ -1,6 +1,6 @@
 -- Document 01's bench values M1 to M13 (its section "Bench values"), as lists: what the definitions give, beside what document 01 says;
--- M13 for both forms of a head, document 01's and document 02's (A.2); the bounds of A.2 and A.5, the order of A.6, the one save of A.7, the key lengths of A.8, the rings of A.9,
--- what A.10 refuses, and chains of A.11.
+-- M13 for both forms of a head, document 01's and document 02's (A.2); the bounds of A.2 and A.5, the order of A.6, the one save of A.7, the
+-- key lengths of A.8, the rings of A.9, what A.10 refuses, and chains of A.11.
 use Prim.Native.Nat.{ℕ, _/_}
 use mathlib.Core.Path.{_≡_}
 use mathlib.Core.Bool.{Bool, true, false, not}
@@ -442,6 +442,7 @@ chains =
     (sorting (replicate 31 7) 4, stops (some 21)) ∷
     (sorting (replicate 33 7) 0, stops (some 21)) ∷ []
 
+-- the most entries, and more
 abbrev pub many-entries : List (Value × Value)
 many-entries =
     (sorting (zeros 2048) 63, stops (some 4)) ∷

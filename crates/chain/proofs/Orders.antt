@@ -111,11 +111,11 @@ module _ (E : List ℕ) (differ : own-twice E ≡ false) (long : ends-early E �
   pub walk-orders : ChainOrder E (order E)
   unfolding order
   walk-orders = record {
-    in-all = length-table (count E) (place E);
+    in-all = omega (arith, length-table (count E) (place E));
     there = λ k h. rw (in-order k h) (place-there k h);
     once = λ j k hj hk e. walk-once j k (omega arith) (omega arith) (sym (in-order j (omega arith)) ∙ e ∙ in-order k (omega arith));
     own-differ = own-one;
-    first = λ i h e. walk-first i h (ap (previous E) (sym (in-order 0 (omega arith))) ∙ e);
+    first = λ i h e. walk-first i (omega arith) (ap (previous E) (sym (in-order 0 (omega arith))) ∙ e);
     later = λ k h. ap (previous E) (in-order (suc k) h) ∙ walk-later k h ∙ ap (own E) (sym (in-order k (omega arith)));
   }
 
@@ -137,7 +137,7 @@ module _ (E ps : List ℕ) (o : ChainOrder E ps) where
   unfolding place first-entry
   order-first z =
       only-one (count E) (first-test E) (nth ps 0) (o .there 0 z)
-      (eq-eqb _ _ (none-with E tag-length (previous E (nth ps 0)) (λ i h e. o .first i h (sym e))))
+      (eq-eqb _ _ (none-with E tag-length (previous E (nth ps 0)) (λ i h e. o .first i (omega arith) (sym e))))
       (λ j h t. only j h (eqb-true _ _ t) (stands j h))
     where
       later : (j : ℕ) → owner E (previous E j) ≡ count E → (k : ℕ) → k < count E → nth ps k ≡ j → j ≡ nth ps 0
@@ -154,7 +154,7 @@ module _ (E ps : List ℕ) (o : ChainOrder E ps) where
       one-with E 0 (own E (nth ps k)) (nth ps (suc k)) (o .there (suc k) h) (o .later k h) (λ j l e. only j e (stands j l))
     where
       back : (j : ℕ) → previous E j ≡ own E (nth ps k) → (m : ℕ) → m < count E → nth ps m ≡ j → j ≡ nth ps (suc k)
-      back j e zero l q = absurd (o .first (nth ps k) (o .there k (omega arith)) (ap (previous E) q ∙ e))
+      back j e zero l q = absurd (o .first (nth ps k) (omega (arith, o .there k (omega arith))) (ap (previous E) q ∙ e))
       back j e (suc m) l q =
           let same-own : own E (nth ps m) ≡ own E (nth ps k) = sym (o .later m l) ∙ ap (previous E) q ∙ e in
           let one : m ≡ k = o .once m k (omega arith) (omega arith) (o .own-differ _ _ (o .there m (omega arith)) (o .there k (omega arith)) same-own) in
@@ -176,4 +176,4 @@ module _ (E ps : List ℕ) (o : ChainOrder E ps) where
 
   pub order-walks : (own-twice E ≡ false) × (ends-early E ≡ false) × (ps ≡ order E)
   unfolding order
-  order-walks = (order-differs, order-long, is-table (count E) (place E) ps (o .in-all) (λ k h. sym (order-place k h)))
+  order-walks = (order-differs, order-long, is-table (count E) (place E) ps (omega (arith, o .in-all)) (λ k h. sym (order-place k h)))

@@ -18,9 +18,9 @@ abbrev instead : (n v : ℕ) → ℕ → ℕ
 instead n v x = cond (eqb x n) v x
 
 -- n + 1 numbers below n do not differ: of one more of each, the last takes the place of n, and leaves
-no-room : (n : ℕ) (f : ℕ → ℕ) → Different (suc n) n f → ⊥
-no-room zero f d = omega (arith, d .below 0 (omega arith))
-no-room (suc n) f d = no-room n (λ k. instead n (f (suc n)) (f k)) (record { below = below; differ = differ })
+too-many : (n : ℕ) (f : ℕ → ℕ) → Different (suc n) n f → ⊥
+too-many zero f d = omega (arith, d .below 0 (omega arith))
+too-many (suc n) f d = too-many n (λ k. instead n (f (suc n)) (f k)) (record { below = below; differ = differ })
   where
     -- those before the last are not the last
     other : (k : ℕ) → k < suc n → f k ≡ f (suc n) → ⊥
@@ -62,7 +62,7 @@ each-stands n f d q h = go (ltb m n) refl
 
     go : (t : Bool) → ltb m n ≡ t → Stands n f q
     go true l = record { place = m; there = ltb-true m n l; stands = eqb-true (f m) q (found n (λ k. eqb (f k) q) .holds (ltb-true m n l)) }
-    go false l = absurd (no-room n with-q (record { below = below; differ = differ }))
+    go false l = absurd (too-many n with-q (record { below = below; differ = differ }))
       where
         none : (k : ℕ) → k < n → f k ≡ q → ⊥
         none k h e = eqb-false (f k) q (none-below n (λ k. eqb (f k) q) l k h) e

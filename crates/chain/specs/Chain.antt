@@ -1,5 +1,5 @@
 -- Which dump came before which (document 02, A.11). An entry is 32 bytes: a checkpoint's previous tag, then its own. Entries E stand one
--- behind the other, unsorted; an entry is named by its position, counted from 0.
+-- behind the other, unsorted; an entry is known by its position, counted from 0.
 use Prim.Native.Nat.{ℕ, zero, suc, _+_, _*_, _/_, _%_, _<_}
 use mathlib.Core.Path.{_≡_}
 use mathlib.Core.Bool.{Bool, cond, not, _||_}
@@ -37,7 +37,7 @@ abbrev pub nth : List ℕ → ℕ → ℕ
 nth ps k = getD ps k 0
 
 pub record ChainOrder (E ps : List ℕ) : Type 0 where
-  -- the position of each entry, once: as many as there are entries, each that of an entry, and no two the same
+  -- the position of each entry, once: as many as there are entries, each that of an entry, and no two the same (which follows from the rest)
   pub in-all : length ps ≡ count E
   pub there : (k : ℕ) → k < count E → nth ps k < count E
   pub once : (j k : ℕ) → j < count E → k < count E → nth ps j ≡ nth ps k → j ≡ k
@@ -58,7 +58,7 @@ first-below (suc n) test = cond (test 0) 0 (suc (first-below n (λ i. test (suc 
 abbrev pub some-below : ℕ → (ℕ → Bool) → Bool
 some-below n test = ltb (first-below n test) n
 
--- the first entry that has a tag at an offset
+-- the first entry that has a tag at an offset; `count E` if there is none
 unfoldable pub entry-with : (E : List ℕ) (offset : ℕ) → List ℕ → ℕ
 entry-with E offset tag = first-below (count E) (λ i. same (tag-at E offset i) tag)
 
@@ -69,11 +69,11 @@ owner E tag = entry-with E tag-length tag
 abbrev pub follower : (E : List ℕ) → ℕ → ℕ
 follower E i = entry-with E 0 (own E i)
 
--- an entry is not the first with its own tag
+-- some entry is not the first with its own tag
 unfoldable pub own-twice : List ℕ → Bool
 own-twice E = some-below (count E) (λ i. not (eqb (owner E (own E i)) i))
 
--- the first entry whose previous tag is none's own
+-- the first entry whose previous tag is none's own; `count E` if there is none
 unfoldable pub first-entry : List ℕ → ℕ
 first-entry E = first-below (count E) (λ i. eqb (owner E (previous E i)) (count E))
 

@@ -88,8 +88,8 @@ fn entries_wrong(entries: &[u8]) -> bool
 }
 
 // Writes the positions of the entries in chain order, a byte each, to the front of a buffer. For n entries it compares two tags 2 n² + 2 n times
-// at the most: n (n + 1) / 2 times to see that own tags differ, n² for the first entry, and as no two entries have one follower,
-// n (n + 1) / 2 + n for the walk.
+// at the most: n (n + 1) / 2 times to see that own tags differ, n² for the first entry, and n (n + 1) / 2 + n for the walk, which comes to no entry
+// twice, since own tags differ and none is before the first.
 pub fn chain_order(entries: &[u8], positions: &mut [u8]) -> Check
     ensures { λ r. ⌜ ordered-as r (now (positions .exit)) ≡ chain-order (now (entries .entry)) (now (positions .entry)) ⌝ }
 {

@@ -1,4 +1,4 @@
-// Byte strings: the functions on slices that several crates call, and document 01's limits.
+// Byte strings: the functions on slices that several crates call, and the limits of documents 01 and 02.
 pub mod limits;
 
 ghost use mathlib.Core.Path.{_≡_};

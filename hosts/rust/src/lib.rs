@@ -29,7 +29,7 @@
 //! [`hex_export`] and [`hex_import`] carry an image of either memory to a programmer and back, as Intel HEX;
 //! [`ring_shape`] makes every shape of a readable ring of a small size, for trying units at the bench; [`factory_check`]
 //! accepts exactly the memories that a first save leaves, for checking what an assembly house programs; [`chain_order`]
-//! sorts dumps of checkpoints by their tags.
+//! tells in which order dumps of checkpoints were made.
 //!
 //! The code behind these calls is proved. This crate hands slices on as they are, and has no checks of its own.
 //!

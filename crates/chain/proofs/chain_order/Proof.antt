@@ -18,8 +18,8 @@ few : (E : List ℕ) → entries-wrong E ≡ false → count E ≤ entries-limit
 few E w = whole E w .not-many
 
 -- the places that the walk stored
-in-front : (E places : List ℕ) → entries-wrong E ≡ false → length places ≡ entries-limit → length (take (count E) places) ≡ count E
-in-front E places w l = length-take-le (count E) places (omega (arith, few E w, l))
+stored-long : (E places : List ℕ) → entries-wrong E ≡ false → length places ≡ entries-limit → length (take (count E) places) ≡ count E
+stored-long E places w l = length-take-le (count E) places (omega (arith, few E w, l))
 
 returns : tie.Need-returns
 returns c =
@@ -31,7 +31,7 @@ returns-2 c =
     let sized = c .before in
     let a = sized .before .before .before .before .args in
     stops-4 (a .entries .now) (a .positions .now) (sym (sized .before .entries-wrong .ensures) ∙ sized .if1 .left)
-    (not-long-enough (a .entries .now) (a .positions .now) (c .if2 .taken))
+    (not-long-enough (a .entries .now) (a .positions .now) (omega (arith, c .if2 .taken)))
 
 returns-3 : tie.Need-returns-3
 returns-3 c =
@@ -68,7 +68,7 @@ slice-aggregate-copy : tie.Need-slice-aggregate-copy
 slice-aggregate-copy c =
     let sized = c .before .before .before .before .before .before .before .before in
     let a = sized .before .before .before .before .args in
-    sym (in-front (a .entries .now) _ (sym (sized .before .entries-wrong .ensures) ∙ sized .if1 .left) (c .before .before .before .ends-early .ensures .1))
+    sym (stored-long (a .entries .now) _ (sym (sized .before .entries-wrong .ensures) ∙ sized .if1 .left) (c .before .before .before .ends-early .ensures .1))
 
 copy-requires : tie.Need-copy-requires
 copy-requires c κs =
@@ -76,7 +76,7 @@ copy-requires c κs =
     let sized = long .before in
     let a = sized .before .before .before .before .args in
     let walk = c .before .before .before .before .ends-early in
-    omega (arith, in-front (a .entries .now) (walk .last .1 .0) (sym (sized .before .entries-wrong .ensures) ∙ sized .if1 .left) (walk .ensures .1), long .if2 .left)
+    omega (arith, stored-long (a .entries .now) (walk .last .1 .0) (sym (sized .before .entries-wrong .ensures) ∙ sized .if1 .left) (walk .ensures .1), long .if2 .left)
 
 returns-5 : tie.Need-returns-5
 returns-5 c =

@@ -3,16 +3,18 @@
 //! order exists". Dumps of the keeper's own checkpoints are put back into the order in which they were made; of few entries
 //! every order is tried.
 
-use crate::by_hand::{lent, made};
+use crate::by_hand::{answer, lent, made, started};
 use crate::firmware::{Firmware, KEEPER};
 use crate::histories::generated;
-use crate::layout::{half_of, open_half, read_ring, Reading};
-use crate::operations::{Lent, Operation, DONE};
+use crate::layout::{half_of, number, open_half, read_ring, tag_of, Checkpoint, Form, Reading};
+use crate::operations::{Lent, Operation, DONE, GOING_ON};
 use crate::program::program;
 use crate::random::Random;
 use godwitshelf::{calls, chain_order, Stop};
 use std::collections::{BTreeMap, BTreeSet};
+use std::fs;
 use std::io::Write as _;
+use std::path::Path;
 use std::process::{Command, Stdio};
 
 type Tag = [u8; 16];
@@ -32,22 +34,25 @@ fn bytes_of(entries: &[Entry]) -> Vec<u8> {
     entries.iter().flat_map(|entry| [entry.previous, entry.own]).flatten().collect()
 }
 
-/// The call's order or its stop. A refusal writes nothing, and an order no byte behind it.
+/// The call's order or its stop. A refusal writes nothing, and an order no byte before or behind it.
 fn sorted(entries: &[Entry]) -> Result<Vec<usize>, u32> {
     called(&bytes_of(entries), entries.len() + 3)
 }
 
 fn called(entries: &[u8], room: usize) -> Result<Vec<usize>, u32> {
-    let before: Vec<u8> = (0..room).map(|i| 0xC0 ^ i as u8).collect();
+    const AROUND: usize = 8;
+    let before: Vec<u8> = (0..room + 2 * AROUND).map(|i| 0xC0 ^ i as u8).collect();
     let mut positions = before.clone();
-    let answer = calls::chain_order(entries, &mut positions);
+    let answer = calls::chain_order(entries, &mut positions[AROUND..AROUND + room]);
     let written = if answer == DONE { entries.len() / 32 } else { 0 };
-    assert_eq!(positions[written..], before[written..], "{answer}");
+    assert_eq!(positions[..AROUND], before[..AROUND], "{answer}");
+    assert_eq!(positions[AROUND + written..], before[AROUND + written..], "{answer}");
     let mut again = before.clone();
-    assert_eq!(chain_order(entries, &mut again).map_or_else(Stop::number, |()| DONE), answer);
+    let typed = chain_order(entries, &mut again[AROUND..AROUND + room]);
+    assert_eq!(typed.map_or_else(Stop::number, |()| DONE), answer);
     assert_eq!(again, positions);
     match answer {
-        DONE => Ok(positions[..written].iter().map(|position| *position as usize).collect()),
+        DONE => Ok(positions[AROUND..][..written].iter().map(|position| *position as usize).collect()),
         stop => Err(stop),
     }
 }
@@ -164,6 +169,35 @@ fn dumps_of_two_units() {
     assert!(lots.len() > 10);
 }
 
+/// A save that is cut before its record leaves a whole checkpoint in the half that the ring does not name. The power-up names
+/// the same one before it.
+#[test]
+fn a_checkpoint_that_was_not_recorded() {
+    let mut random = Random::new(22);
+    let mut unit = lent(32, 3, 4, 128);
+    made(Operation::FirstSave, &mut unit, 1);
+    let first = dumped(KEEPER, &unit);
+    assert_eq!(started(Operation::Save, &mut unit, 2), DONE);
+    let words = number(&unit.job[16..20]) as usize / 4;
+    for _ in 0..words {
+        assert_eq!(answer(Operation::Advance, &mut unit), GOING_ON);
+    }
+    let Reading::Newest(newest) = read_ring(3, 4, &unit.ring) else { panic!("nothing recorded") };
+    let half = half_of(&unit.fram, 1 - newest.half);
+    let (checkpoint, own) = open_half(KEEPER, half, &unit.key, &unit.job[28..40]).unwrap();
+    let draft = Entry { previous: checkpoint.previous_tag, own };
+    assert_eq!(draft.previous, first.own);
+    made(Operation::PowerUp, &mut unit, 0);
+    let second = dumped(KEEPER, &unit);
+    made(Operation::Save, &mut unit, 3);
+    let third = dumped(KEEPER, &unit);
+    assert_eq!(sorted(&[third, first, second]), Ok(vec![1, 2, 0]));
+    assert_eq!(sorted(&[draft, first]), Ok(vec![1, 0]));
+    for entries in [vec![first, draft, second], vec![first, draft, third], vec![first, draft, second, third]] {
+        assert_eq!(sorted(&shuffled(&entries, &mut random).0), Err(NO_ORDER));
+    }
+}
+
 /// coreutils' tsort orders pairs likewise, and begins with the tag that the first entry names.
 #[test]
 fn beside_tsort() {
@@ -180,7 +214,11 @@ fn beside_tsort() {
         let order = sorted(&entries).unwrap();
         let mut tags = vec![hex(entries[order[0]].previous)];
         tags.extend(order.iter().map(|position| hex(entries[*position].own)));
-        assert_eq!(output(Command::new("tsort"), pairs.as_bytes()).lines().collect::<Vec<_>>(), tags, "seed {seed}");
+        assert_eq!(
+            output(Command::new("tsort"), pairs.as_bytes(), 4096).lines().collect::<Vec<_>>(),
+            tags,
+            "seed {seed}"
+        );
     }
 }
 
@@ -218,12 +256,12 @@ fn tried(entries: &[Entry], orders: &[Vec<usize>]) -> bool {
     expected.is_ok()
 }
 
-/// One to three entries with tags out of one more than there are entries: all there are.
+/// One to three entries, and tags that are equal or differ in every way.
 #[test]
 fn every_case_of_up_to_three() {
     for count in 1..=3 {
         let orders = permutations(count);
-        let letters = count + 1;
+        let letters = 2 * count;
         let mut with_order = 0;
         for number in 0..letters.pow(2 * count as u32) {
             let letter = |at: usize| [(number / letters.pow(at as u32) % letters) as u8; 16];
@@ -231,9 +269,9 @@ fn every_case_of_up_to_three() {
                 (0..count).map(|i| Entry { previous: letter(2 * i), own: letter(2 * i + 1) }).collect();
             with_order += tried(&entries, &orders) as usize;
         }
-        // A row of different tags, and the entries in any order.
-        let factorial = |n: usize| (1..=n).product::<usize>();
-        assert_eq!(with_order, factorial(letters) * factorial(count));
+        // A row of count + 1 different tags, and its entries in any order.
+        let rows: usize = (letters - count..=letters).product();
+        assert_eq!(with_order, rows * orders.len());
     }
 }
 
@@ -244,7 +282,7 @@ fn random_cases_of_up_to_six() {
     let mut seen = BTreeMap::new();
     for _ in 0..30_000 {
         let count = 1 + random.below(6);
-        // Tags that are all different, or differ in one byte or bit.
+        // Tags that differ everywhere, in one byte, or in a few bits.
         let other: Vec<Tag> = match random.below(3) {
             0 => (0..=count + 1).map(|_| random.bytes(16).try_into().unwrap()).collect(),
             1 => {
@@ -303,6 +341,11 @@ fn a_cycle() {
     refused("a cycle beside a chain", 3, |chain, random| {
         let from = 1 + random.below(chain.len() - 2);
         chain[from].previous = chain[chain.len() - 1].own;
+    });
+    refused("two cycles", 2, |chain, random| {
+        let from = 1 + random.below(chain.len() - 1);
+        chain[from].previous = chain[chain.len() - 1].own;
+        chain[0].previous = chain[from - 1].own;
     });
 }
 
@@ -365,11 +408,11 @@ fn one_bit_of_a_tag() {
         near[2].own = near[0].own;
         near[2].own[bit / 8] ^= 1 << (bit % 8);
         assert_eq!(sorted(&near), Ok(vec![0, 1, 2]), "bit {bit}");
-        // And a first previous tag that is nearly one.
+        // The first previous tag is the last's own; then the first's; then it differs from both in a bit or two.
         near[0].previous = near[2].own;
         assert_eq!(sorted(&near), Err(NO_ORDER), "bit {bit}");
         near[0].previous[bit / 8] ^= 1 << (bit % 8);
-        assert_eq!(sorted(&near), Err(NO_ORDER), "bit {bit}: it is the first's own now");
+        assert_eq!(sorted(&near), Err(NO_ORDER), "bit {bit}");
         near[0].previous[(bit / 8 + 1) % 16] ^= 1;
         assert_eq!(sorted(&near), Ok(vec![0, 1, 2]), "bit {bit}");
     }
@@ -406,18 +449,29 @@ fn the_first_number_that_applies() {
 
 // The program.
 
-fn output(mut command: Command, input: &[u8]) -> String {
+/// What a program prints, given its input in pieces of so many bytes.
+fn output(mut command: Command, input: &[u8], piece: usize) -> String {
     let mut child = command.stdin(Stdio::piped()).stdout(Stdio::piped()).stderr(Stdio::piped()).spawn().unwrap();
-    // It may end before it has read all.
-    let _ = child.stdin.take().unwrap().write_all(input);
+    let mut pipe = child.stdin.take().unwrap();
+    for bytes in input.chunks(piece) {
+        // It may end before it has read all.
+        if pipe.write_all(bytes).is_err() {
+            break;
+        }
+    }
+    drop(pipe);
     let output = child.wait_with_output().unwrap();
     assert_eq!(String::from_utf8_lossy(&output.stderr), "");
     assert!(output.status.success());
     String::from_utf8(output.stdout).unwrap()
 }
 
-fn viewed(entries: &[u8]) -> String {
-    output(Command::new(program("chain_view")), entries)
+fn viewed(entries: &[u8], piece: usize) -> String {
+    output(Command::new(program("chain_view")), entries, piece)
+}
+
+fn lines(places: &[usize]) -> String {
+    places.iter().map(|position| format!("{position}\n")).collect()
 }
 
 #[test]
@@ -425,30 +479,119 @@ fn the_program() {
     let mut random = Random::new(18);
     for count in 1..=64 {
         let (entries, places) = shuffled(&made_up(count, &mut random), &mut random);
-        let lines: String = places.iter().map(|position| format!("{position}\n")).collect();
-        assert_eq!(viewed(&bytes_of(&entries)), lines);
+        for piece in [4096, 16, 7] {
+            assert_eq!(viewed(&bytes_of(&entries), piece), lines(&places));
+        }
     }
     let bytes = bytes_of(&made_up(65, &mut random));
-    assert_eq!(viewed(&bytes[..64 * 32]).lines().count(), 64);
+    assert_eq!(viewed(&bytes[..64 * 32], 4096), lines(&(0..64).collect::<Vec<_>>()));
     for length in [0, 1, 31, 33, 63, 64 * 32 - 1, 64 * 32 + 1, 65 * 32] {
-        assert_eq!(viewed(&bytes[..length]), "refused 21\n", "{length} bytes");
+        assert_eq!(viewed(&bytes[..length], 4096), "refused 21\n", "{length} bytes");
     }
-    assert_eq!(viewed(&[&bytes[..64], &bytes[96..128]].concat()), "refused 22\n");
+    assert_eq!(viewed(&[&bytes[..64], &bytes[96..128]].concat(), 4096), "refused 22\n");
+}
+
+/// A checkpoint of a chain, with parts of 8 bytes and 4.
+fn checkpoint(form: Form, number: u8, previous_tag: Tag) -> Checkpoint {
+    Checkpoint {
+        form,
+        packet: 0,
+        open_part: b"volume 3".to_vec(),
+        secret: b"0:00".to_vec(),
+        restarts: 0,
+        previous_tag,
+        nonce: std::array::from_fn(|i| if i == 0 { number } else { 0 }),
+    }
+}
+
+/// The entries that the gate runs the program on: a unit is saved and restarted in turn, and the fourth checkpoint stands
+/// first, then the first, the fifth, the second and the third.
+#[test]
+fn the_entries_of_the_gate() {
+    let mut key = [0; 16];
+    key[0] = 7;
+    let mut starting_tag = [0; 16];
+    starting_tag[0] = 9;
+    let mut chain: Vec<Entry> = Vec::new();
+    for number in 0..5 {
+        let previous = chain.last().map_or(starting_tag, |entry| entry.own);
+        // Every second one is a power-up's: the same packet number, and one restart.
+        let saved = number - number % 2;
+        let made = Checkpoint {
+            packet: saved.into(),
+            restarts: (number % 2).into(),
+            ..checkpoint(Form::Longer, number + 1, previous)
+        };
+        chain.push(Entry { previous, own: made.tag(&key) });
+    }
+    let folder = Path::new(env!("CARGO_MANIFEST_DIR")).join("../../crates/chain_view");
+    let entries = [3, 0, 4, 1, 2].map(|number: usize| chain[number]);
+    assert_eq!(fs::read(folder.join("stdin")).unwrap(), bytes_of(&entries));
+    assert_eq!(fs::read_to_string(folder.join("stdout")).unwrap(), lines(&[1, 3, 4, 0, 2]));
+    assert_eq!(sorted(&entries), Ok(vec![1, 3, 4, 0, 2]));
+}
+
+/// README's lines for the bench, on images of a unit's FRAM, and on checkpoints of both forms.
+#[test]
+fn tags_cut_out_of_dumps() {
+    let folder = Path::new(env!("CARGO_TARGET_TMPDIR")).join("chain");
+    fs::create_dir_all(&folder).unwrap();
+    let shell = |line: &str| {
+        let mut command = Command::new("sh");
+        let path = format!("{}:{}", program("").display(), std::env::var("PATH").unwrap());
+        command.args(["-c", line]).current_dir(&folder).env("PATH", path);
+        output(command, &[], 1)
+    };
+    let readme = fs::read_to_string(Path::new(env!("CARGO_MANIFEST_DIR")).join("../../README.md")).unwrap();
+    let of_readme = |begin: &str| {
+        let line = readme.lines().map(str::trim).find(|line| line.starts_with(begin)).unwrap();
+        line.split("      ").next().unwrap().replace("target/bin/", "")
+    };
+    let key = [5; 32];
+    let mut previous = [1; 16];
+    let mut chain = Vec::new();
+    for number in 0..4 {
+        // Older firmware made the first two.
+        let form = if number < 2 { Form::Older } else { Form::Longer };
+        chain.push(checkpoint(form, number, previous).sealed(&key));
+        previous = tag_of(chain.last().unwrap());
+    }
+    // The last two of them in half A and in half B.
+    let mut fram = vec![0xEE; 128];
+    fram[..60].copy_from_slice(&chain[3]);
+    fs::write(folder.join("fram1.bin"), &fram).unwrap();
+    fram[64..124].copy_from_slice(&chain[2]);
+    fs::write(folder.join("fram2.bin"), &fram).unwrap();
+    assert_eq!(shell(&of_readme("head -c 60")), "");
+    assert_eq!(shell(&of_readme("tail -c +65")), "");
+    let sorting = of_readme("for dump in");
+    assert_eq!(shell(&sorting), "1\n0\n");
+    // In the older form the previous tag stands earlier.
+    fs::write(folder.join("a.bin"), &chain[1]).unwrap();
+    fs::write(folder.join("b.bin"), &chain[0]).unwrap();
+    assert_eq!(shell(&sorting), "refused 22\n");
+    assert_eq!(shell(&sorting.replace("+17", "+13")), "1\n0\n");
+    assert!(readme.contains("(`tail -c +13`)") && chain[1][0] == 0x40 && chain[1].len() == 56);
+    // All four.
+    let entry = |sealed: &[u8], at: usize| [&sealed[at..at + 16], &tag_of(sealed)[..]].concat();
+    let all = [entry(&chain[2], 16), entry(&chain[1], 12), entry(&chain[3], 16), entry(&chain[0], 12)];
+    assert_eq!(viewed(&all.concat(), 16), lines(&[3, 1, 0, 2]));
 }
 
 /// What is not read or written is said, once, and nothing else.
 #[test]
 fn what_cannot_be_read_or_written() {
     let mut random = Random::new(19);
-    let folder = std::fs::File::open("/").unwrap();
+    let folder = fs::File::open("/").unwrap();
     let output = Command::new(program("chain_view")).stdin(folder).output().unwrap();
     assert_eq!(String::from_utf8_lossy(&output.stderr), "entries: standard input: Is a directory\n");
     assert!(output.stdout.is_empty());
-
-    let full = std::fs::OpenOptions::new().write(true).open("/dev/full").unwrap();
-    let mut child =
-        Command::new(program("chain_view")).stdin(Stdio::piped()).stdout(full).stderr(Stdio::piped()).spawn().unwrap();
-    child.stdin.take().unwrap().write_all(&bytes_of(&made_up(20, &mut random))).unwrap();
-    let output = child.wait_with_output().unwrap();
-    assert_eq!(String::from_utf8_lossy(&output.stderr), "standard output could not be written whole\n");
+    for entries in [bytes_of(&made_up(20, &mut random)), random.bytes(64), vec![]] {
+        let full = fs::OpenOptions::new().write(true).open("/dev/full").unwrap();
+        let mut command = Command::new(program("chain_view"));
+        let mut child = command.stdin(Stdio::piped()).stdout(full).stderr(Stdio::piped()).spawn().unwrap();
+        child.stdin.take().unwrap().write_all(&entries).unwrap();
+        let output = child.wait_with_output().unwrap();
+        assert_eq!(String::from_utf8_lossy(&output.stderr), "standard output could not be written whole\n");
+    }
 }
