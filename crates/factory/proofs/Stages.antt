@@ -10,8 +10,8 @@ use Rattle.checkpoint.specs.Half.{form-of, stored-restarts}
 use Rattle.protocol.specs.Types.{this-firmware}
 use Rattle.protocol.specs.Operations.{newest-half, look-stop}
 use Rattle.look.specs.View.{looks}
-use Rattle.look.specs.Stages.{look-buffers, look-half}
-use Rattle.look.proofs.LookLaws.{ring-lines, on-half}
+use Rattle.look.specs.Stages.{look-ring, look-half}
+use Rattle.look.proofs.LookLaws.{on-half}
 use Rattle.factory.specs.Factory.{not-first, factory-stop}
 
 module _ (pages slots : ℕ) (ring fram key : List ℕ) where
@@ -22,9 +22,9 @@ module _ (pages slots : ℕ) (ring fram key : List ℕ) where
 
   -- where the ring reads as `found` and has the newest record `rec`
   pub named-stops : (found : Newest) (rec : List ℕ) → found ≡ read-ring ring pages slots → rec ≡ newest-record ring slots (read-ring ring pages slots)
-      → first-of (look-buffers pages slots ring fram key) ≡ none → first-of (ring-lines pages slots ring fram key) ≡ none
+      → first-of (look-ring pages slots ring fram key) ≡ none
       → (let half = half-at fram (half-named rec) in
       then-stop (first-of (look-half key rec fram)) 19 (not-first found (half-named rec) (form-of half) (stored-restarts (form-of half) half)))
       ≡ factory-stop ring fram (looks pages slots key)
   unfolding factory-stop newest-half
-  named-stops found rec x y b r = rw (x, y, on-half pages slots ring fram key b r)
+  named-stops found rec x y r = rw (x, y, on-half pages slots ring fram key r)

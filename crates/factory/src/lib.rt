@@ -4,20 +4,16 @@ use checkpoint::fram::half_at;
 use checkpoint::half::Head;
 use checkpoint::half::read_head;
 use checkpoint::layout::HEAD_LENGTH;
-use gcm::key_wrong;
 use look::check_half;
-use memories::check_memories;
-use memories::check_newest;
+use look::find;
 use octets::limits::NONCE_LENGTH;
 use octets::part;
 use ring::Newest;
 use ring::half_named;
-use ring::read_ring;
 use stops::Check;
 use stops::Stop;
 ghost use mathlib.Core.Path.{_≡_};
 ghost use mathlib.Core.Bool.{false};
-ghost use mathlib.Core.Option.{none};
 ghost use Prim.Native.Nat.{_≤_};
 ghost use lib.ListN.{length};
 ghost use Rattle.octets.specs.Limits.{slot-length, fram-limit};
@@ -30,7 +26,7 @@ ghost use Rattle.checkpoint.specs.Checkpoint.{Form, head-length};
 ghost use Rattle.checkpoint.specs.Fram.{fram-wrong, half-at};
 ghost use Rattle.checkpoint.specs.Half.{form-of, stored-restarts};
 ghost use Rattle.look.specs.View.{looks};
-ghost use Rattle.look.specs.Stages.{look-buffers, look-half};
+ghost use Rattle.look.specs.Stages.{look-half};
 ghost use Rattle.factory.specs.Factory.{not-first, factory-stop};
 
 // Stop 19, of what the ring reads as, the half that the newest record names, and the head that stands there.
@@ -57,30 +53,16 @@ fn check_named(found: Newest, record: &[u8], fram: &[u8], key: &[u8]) -> Check
     check.stop_if(not_first(found, number, head), Stop::NotFirstSave)
 }
 
-// The stops behind 3.
-fn check_found(pages: usize, slots: usize, ring: &[u8], fram: &[u8], key: &[u8]) -> Check
-    requires { ⌜ first-of (look-buffers pages slots (now ring) (now fram) (now key)) ≡ none ⌝ }
-    ensures { λ r. ⌜ check-number r ≡ factory-stop (now (ring .entry)) (now (fram .entry)) (looks pages slots (now (key .entry))) ⌝ }
-{
-    let found = read_ring(ring, pages, slots);
-    let check = check_newest(found);
-    match check {
-        Check::Stopped(stop) => Check::Stopped(stop),
-        Check::Pass => check_named(found, found.record(ring, pages, slots), fram, key),
-    }
-}
-
 // Passes exactly if some first save, run to its end, leaves this ring and, in its checkpoint's length of half A, these bytes. Else it stops with
 // the first that applies of 1, 2, 3, 6, 7, 11 and 12, as a look does, and 19.
 pub fn factory_check(pages: usize, slots: usize, ring: &[u8], fram: &[u8], key: &[u8]) -> Check
     ensures { λ r. ⌜ check-number r ≡ factory-stop (now (ring .entry)) (now (fram .entry)) (looks pages slots (now (key .entry))) ⌝ }
 {
-    let check = check_memories(ring, pages, slots, fram).stop_if(
-        key_wrong(key.len()),
-        Stop::KeyNonceTagSize,
-    );
+    let found = find(pages, slots, ring, fram, key);
+    let check = found.check;
+    let newest = found.newest;
     match check {
         Check::Stopped(stop) => Check::Stopped(stop),
-        Check::Pass => check_found(pages, slots, ring, fram, key),
+        Check::Pass => check_named(newest, newest.record(ring, pages, slots), fram, key),
     }
 }

@@ -3,7 +3,7 @@ use Prim.Native.Nat.{ℕ, _+_, _*_, _<_, _≤_}
 use mathlib.Core.Path.{_≡_, refl, sym, ap, subst, _∙_}
 use mathlib.Core.Bool.{Bool, false}
 use mathlib.Core.Option.{Option, none, some}
-use mathlib.Core.List.{List, _++_}
+use mathlib.Core.List.{List}
 use native.Mathlib.Omega.{arith}
 use lib.ListN.{length}
 use borrow.Author.Tests.{not-false}
@@ -11,8 +11,10 @@ use Rattle.protocol.specs.Types.{this-firmware}
 use Rattle.octets.specs.Limits.{nonce-length, fram-limit, part-limit}
 use Rattle.octets.specs.Octets.{part}
 use Rattle.stops.specs.Stops.{first-of}
-use Rattle.stops.proofs.Laws.{tried, tried-first, first-append, passes}
-use Rattle.ring.specs.Ring.{Newest, ring-wrong, read-ring, newest-record, half-named}
+use Rattle.stops.specs.View.{check-number}
+use Rattle.stops.proofs.Laws.{first-stays, first-passes, passes}
+use Rattle.ring.specs.Ring.{Newest, Within, ring-wrong, read-ring, newest-record, half-named}
+use Rattle.ring.specs.View as ring-view
 use Rattle.ring.proofs.NewestLaws.{newest-half-fits}
 use Rattle.gcm.specs.Calls.{KeyLength}
 use Rattle.gcm.proofs.Keys.{whole-key}
@@ -24,8 +26,9 @@ use Rattle.checkpoint.specs.Half.{form-of, open-length, stored-restarts}
 use Rattle.memories.specs.Stages.{of-newest}
 use Rattle.protocol.specs.Operations.{newest-half, look-stop, look, look-by, open-stretch, stretch-by}
 use Rattle.look.specs.View.{view-looked, view-stretch, looks}
-use Rattle.look.specs.Stages.{look-buffers, of-half, look-half}
-use Rattle.look.specs.Seen.{Sees}
+use Rattle.look.specs.Stages.{look-buffers, look-ring, of-half, look-half}
+use Rattle.look.specs.Seen.{Finds, Sees}
+use Rattle.look.specs.declared.types.Found.{Found}
 use Rattle.look.specs.declared.types.Seen.{Seen}
 
 -- stops 11 and 12 of a half, which is number h of the image, said of the record that names it
@@ -47,45 +50,62 @@ module _ (pages slots : ℕ) (ring fram key : List ℕ) where
   abbrev stop : Option ℕ
   stop = look-stop this-firmware ring fram (looks pages slots key)
 
-  abbrev pub ring-lines : List (ℕ × Bool)
-  ring-lines = of-newest read
-
   abbrev half-lines : List (ℕ × Bool)
   half-lines = look-half key newest fram
 
-  pub buffers-stop : {s : ℕ} → first-of (look-buffers pages slots ring fram key) ≡ some s → stop ≡ some s
-  unfolding look-stop newest-half tried
-  buffers-stop e = first-append (look-buffers pages slots ring fram key) (ring-lines ++ half-lines) e
+  -- ---- what is found of the ring
 
-  on-ring : first-of (look-buffers pages slots ring fram key) ≡ none → stop ≡ first-of (ring-lines ++ half-lines)
+  pub finds-stop : (f : Found) {s : ℕ} → first-of (look-buffers pages slots ring fram key) ≡ some s → check-number (f .check) ≡ some s → Finds f pages slots ring fram key
+  finds-stop f {s} e g = record { stop = g ∙ sym (first-stays (look-buffers pages slots ring fram key) (of-newest read) e); reads = λ n. no (sym g ∙ n) }
+    where
+      no : {A : Type 0} → _≡_ {A = Option ℕ} (some s) none → A
+      no z = let n : _≡_ {A = ℕ} 0 1 = cc in absurd (omega arith)
+
+  pub finds : (f : Found) → first-of (look-buffers pages slots ring fram key) ≡ none → ring-view.newest (f .newest) ≡ read → Within pages slots (ring-view.newest (f .newest))
+      → check-number (f .check) ≡ first-of (of-newest (ring-view.newest (f .newest))) → Finds f pages slots ring fram key
+  finds f e r w g = record {
+    stop = g ∙ ap (λ (n : Newest). first-of (of-newest n)) r ∙ sym (first-passes (look-buffers pages slots ring fram key) (of-newest read) e);
+    reads = λ n. (r, w);
+  }
+
+  -- the stops before a half is looked at
+  pub ring-stop : {s : ℕ} → first-of (look-ring pages slots ring fram key) ≡ some s → stop ≡ some s
   unfolding look-stop newest-half
-  on-ring e = first-append (look-buffers pages slots ring fram key) (ring-lines ++ half-lines) e ∙ tried-first (ring-lines ++ half-lines)
+  ring-stop e = first-stays (look-ring pages slots ring fram key) half-lines e
 
-  pub ring-stop : {s : ℕ} → first-of (look-buffers pages slots ring fram key) ≡ none → first-of ring-lines ≡ some s → stop ≡ some s
-  unfolding tried
-  ring-stop e f = on-ring e ∙ first-append ring-lines half-lines f
+  pub on-half : first-of (look-ring pages slots ring fram key) ≡ none → stop ≡ first-of half-lines
+  unfolding look-stop newest-half
+  on-half e = first-passes (look-ring pages slots ring fram key) half-lines e
 
-  pub on-half : first-of (look-buffers pages slots ring fram key) ≡ none → first-of ring-lines ≡ none → stop ≡ first-of half-lines
-  on-half e f = on-ring e ∙ first-append ring-lines half-lines f ∙ tried-first half-lines
-
-  -- what follows where the buffers pass
-  pub record Buffers : Type 0 where
+  -- what follows where none of them applies
+  pub record Passed (f : Found) : Type 0 where
+    pub none-applies : first-of (look-ring pages slots ring fram key) ≡ none
     pub ring-right : ring-wrong pages slots ring ≡ false
     pub fram-right : fram-wrong fram-limit fram ≡ false
     pub key-long : KeyLength (length key)
+    pub reads : ring-view.newest (f .newest) ≡ read
+    pub within : Within pages slots (ring-view.newest (f .newest))
+    -- of the record that was found
+    pub record-is : (rec : List ℕ) → rec ≡ newest-record ring slots (ring-view.newest (f .newest)) → rec ≡ newest
+    pub names-half : (rec : List ℕ) → rec ≡ newest-record ring slots (ring-view.newest (f .newest)) → half-named rec ≤ 1
 
-  pub buffers-pass : first-of (look-buffers pages slots ring fram key) ≡ none → Buffers
-  buffers-pass e =
-      let p = passes _ e in
-      record { ring-right = p .0; fram-right = p .1 .0; key-long = whole-key (length key) (p .1 .1 .0) }
-
-  -- the record that was found names a half
-  pub names-half : (rec : List ℕ) → rec ≡ newest → ring-wrong pages slots ring ≡ false → first-of ring-lines ≡ none → half-named rec ≤ 1
-  names-half rec e w f =
-      let p = passes _ f in
-      let fits : half-named newest < 2 = newest-half-fits pages slots ring w (p .0) (p .1 .0) in
-      let same : half-named rec ≡ half-named newest = ap half-named e in
-      omega (arith, fits, same)
+  pub passed : (f : Found) → Finds f pages slots ring fram key → check-number (f .check) ≡ none → Passed f
+  passed f g e =
+      let n = sym (g .stop) ∙ e in
+      let p = passes _ n in
+      let lines = p .1 .1 .1 in
+      let fits : half-named newest < 2 = newest-half-fits pages slots ring (p .0) (lines .0) (lines .1 .0) in
+      let is : (rec : List ℕ) → rec ≡ newest-record ring slots (ring-view.newest (f .newest)) → rec ≡ newest = λ rec r. r ∙ ap (newest-record ring slots) (g .reads e .0) in
+      record {
+        none-applies = n;
+        ring-right = p .0;
+        fram-right = p .1 .0;
+        key-long = whole-key (length key) (p .1 .1 .0);
+        reads = g .reads e .0;
+        within = g .reads e .1;
+        record-is = is;
+        names-half = λ rec r. let same : half-named rec ≡ half-named newest = ap half-named (is rec r) in omega (arith, fits, same);
+      }
 
   -- ---- what look and its companion answer
 
@@ -97,10 +117,10 @@ module _ (pages slots : ℕ) (ring fram key : List ℕ) where
     f .stretch ∙ sym (ap (λ (o : Option ℕ). stretch-by o (half-named newest * half-length fram + head-length (form-of half)) (open-length (form-of half) half)) e),
   )
 
-  pub sees-half : (s : Seen) (rec : List ℕ) → rec ≡ newest → first-of (look-buffers pages slots ring fram key) ≡ none → first-of ring-lines ≡ none
+  pub sees-half : (s : Seen) (rec : List ℕ) → rec ≡ newest → first-of (look-ring pages slots ring fram key) ≡ none
       → Sees s (first-of (look-half key rec fram)) fram (half-named rec)
       → (view-looked (s .looked) ≡ look this-firmware ring fram (looks pages slots key)) × (view-stretch s ≡ open-stretch this-firmware ring fram (looks pages slots key))
-  sees-half s rec e b r f = sees s (on-half b r) (subst (λ (l : List ℕ). Sees s (first-of (look-half key l fram)) fram (half-named l)) e f)
+  sees-half s rec e r f = sees s (on-half r) (subst (λ (l : List ℕ). Sees s (first-of (look-half key l fram)) fram (half-named l)) e f)
 
   -- the open part lies within the image
   fits : (o : Option ℕ) → stop ≡ o

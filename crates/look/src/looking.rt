@@ -1,4 +1,5 @@
 // Look, its companion, and what both are made of (document 01, "What the unit calls"). They store nothing.
+use crate::types::Found;
 use crate::types::Looked;
 use crate::types::Seen;
 use checkpoint::fram::half_at;
@@ -10,13 +11,14 @@ use memories::check_memories;
 use memories::check_newest;
 use octets::limits::NONCE_LENGTH;
 use octets::part;
+use ring::Newest;
 use ring::half_named;
 use ring::read_ring;
 use stops::Check;
 use stops::Stop;
 ghost use mathlib.Core.Path.{_≡_};
 ghost use mathlib.Core.Bool.{false};
-ghost use mathlib.Core.Option.{none, some};
+ghost use mathlib.Core.Option.{some};
 ghost use mathlib.Core.List.{List};
 ghost use Prim.Native.Nat.{ℕ, _≤_};
 ghost use lib.ListN.{length};
@@ -31,8 +33,8 @@ ghost use Rattle.checkpoint.specs.Fram.{fram-wrong};
 ghost use Rattle.checkpoint.specs.Half.{form-of, open-length, secret-length, good-head};
 ghost use Rattle.protocol.specs.Operations.{look, open-stretch, stretch-of};
 ghost use Rattle.look.specs.View.{view-looked, view-stretch, looks};
-ghost use Rattle.look.specs.Stages.{look-buffers, of-half, look-half};
-ghost use Rattle.look.specs.Seen.{Sees};
+ghost use Rattle.look.specs.Stages.{of-half, look-half};
+ghost use Rattle.look.specs.Seen.{Finds, Sees};
 
 // Stops 11 and 12 of a half, whose head was read.
 pub fn check_half(key: &[u8], nonce: &[u8], half: &[u8], head: Head) -> Check
@@ -76,16 +78,26 @@ fn see_half(record: &[u8], fram: &[u8], key: &[u8]) -> Seen
     }
 }
 
-// The newest checkpoint, where stops 1, 2 and 3 do not apply.
-fn see_newest(pages: usize, slots: usize, ring: &[u8], fram: &[u8], key: &[u8]) -> Seen
-    requires { ⌜ first-of (look-buffers pages slots (now ring) (now fram) (now key)) ≡ none ⌝ }
-    ensures { λ r. ⌜ (view-looked (r .looked) ≡ look this-firmware (now (ring .entry)) (now (fram .entry)) (looks pages slots (now (key .entry)))) × (view-stretch r ≡ open-stretch this-firmware (now (ring .entry)) (now (fram .entry)) (looks pages slots (now (key .entry)))) ⌝ }
+// Stops 1, 2, 3, 6 and 7, and what the ring reads as.
+pub fn find(pages: usize, slots: usize, ring: &[u8], fram: &[u8], key: &[u8]) -> Found
+    ensures { λ r. ⌜ Finds r pages slots (now (ring .entry)) (now (fram .entry)) (now (key .entry)) ⌝ }
 {
-    let newest = read_ring(ring, pages, slots);
-    let check = check_newest(newest);
+    let check = check_memories(ring, pages, slots, fram).stop_if(
+        key_wrong(key.len()),
+        Stop::KeyNonceTagSize,
+    );
     match check {
-        Check::Stopped(stop) => unseen(stop),
-        Check::Pass => see_half(newest.record(ring, pages, slots), fram, key),
+        Check::Stopped(stop) => Found {
+            check: Check::Stopped(stop),
+            newest: Newest::Unreadable,
+        },
+        Check::Pass => {
+            let newest = read_ring(ring, pages, slots);
+            Found {
+                check: check_newest(newest),
+                newest,
+            }
+        }
     }
 }
 
@@ -93,13 +105,12 @@ fn see_newest(pages: usize, slots: usize, ring: &[u8], fram: &[u8], key: &[u8]) 
 pub fn see(pages: usize, slots: usize, ring: &[u8], fram: &[u8], key: &[u8]) -> Seen
     ensures { λ r. ⌜ (view-looked (r .looked) ≡ look this-firmware (now (ring .entry)) (now (fram .entry)) (looks pages slots (now (key .entry)))) × (view-stretch r ≡ open-stretch this-firmware (now (ring .entry)) (now (fram .entry)) (looks pages slots (now (key .entry)))) ⌝ }
 {
-    let check = check_memories(ring, pages, slots, fram).stop_if(
-        key_wrong(key.len()),
-        Stop::KeyNonceTagSize,
-    );
+    let found = find(pages, slots, ring, fram, key);
+    let check = found.check;
+    let newest = found.newest;
     match check {
         Check::Stopped(stop) => unseen(stop),
-        Check::Pass => see_newest(pages, slots, ring, fram, key),
+        Check::Pass => see_half(newest.record(ring, pages, slots), fram, key),
     }
 }
 

@@ -1,4 +1,6 @@
 // What look answers (document 01, "What the unit calls"). specs/View.antt says what each stands for.
+use ring::Newest;
+use stops::Check;
 use stops::Stop;
 
 // What look answers: the newest checkpoint's restarts, or why it stopped.
@@ -12,4 +14,10 @@ pub struct Seen {
     pub looked: Looked,
     pub offset: usize,
     pub length: usize,
+}
+
+// The stops before a half is looked at; where none applies, what the ring reads as.
+pub struct Found {
+    pub check: Check,
+    pub newest: Newest,
 }
