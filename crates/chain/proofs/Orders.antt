@@ -24,20 +24,20 @@ module _ (E : List ℕ) (offset : ℕ) (tag : List ℕ) where
   pub tag-tested : (i : ℕ) (r t : Bool) (at : List ℕ) → at ≡ tag-at E offset i → r ≡ same at tag → r ≡ t → tag-test i ≡ t
   tag-tested i r t at e s q = ap (λ (l : List ℕ). same l tag) (sym e) ∙ sym s ∙ q
 
-  search : Found (count E) tag-test (entry-with E offset tag)
+  searched : Found (count E) tag-test (entry-with E offset tag)
   unfolding entry-with
-  search = found (count E) tag-test
+  searched = found (count E) tag-test
 
   pub with-small : entry-with E offset tag ≤ count E
-  with-small = search .within
+  with-small = searched .within
 
   -- it has the tag
   pub with-tag : entry-with E offset tag < count E → tag-at E offset (entry-with E offset tag) ≡ tag
-  with-tag h = same-equal _ tag (search .holds h)
+  with-tag h = same-equal _ tag (searched .holds h)
 
   -- none has it
   pub with-none : entry-with E offset tag ≡ count E → (i : ℕ) → i < count E → tag-at E offset i ≡ tag → ⊥
-  with-none e i h q = true≢false (sym (equal-same _ tag q) ∙ search .before i (omega arith))
+  with-none e i h q = true≢false (sym (equal-same _ tag q) ∙ searched .before i (omega arith))
 
   pub none-with : ((i : ℕ) → i < count E → tag-at E offset i ≡ tag → ⊥) → entry-with E offset tag ≡ count E
   unfolding entry-with
@@ -68,6 +68,21 @@ unfolding place first-entry
 place-small E zero = found (count E) (first-test E) .within
 place-small E (suc k) = with-small E 0 (own E (place E k))
 
+-- ---- entries f 0, f 1 and so on, each of which names the one before
+
+module _ (E : List ℕ) (f : ℕ → ℕ) (there : (k : ℕ) → k < count E → f k < count E)
+    (own-differ : (i j : ℕ) → i < count E → j < count E → own E i ≡ own E j → i ≡ j)
+    (first : (i : ℕ) → i < count E → previous E (f 0) ≡ own E i → ⊥)
+    (later : (k : ℕ) → suc k < count E → previous E (f (suc k)) ≡ own E (f k)) where
+  -- no two are the same: go back from both places, step by step, to the first
+  pub no-two : (j k : ℕ) → j < count E → k < count E → f j ≡ f k → j ≡ k
+  no-two zero zero hj hk e = refl
+  no-two zero (suc k) hj hk e = absurd (first (f k) (there k (omega arith)) (ap (previous E) e ∙ later k hk))
+  no-two (suc j) zero hj hk e = absurd (first (f j) (there j (omega arith)) (ap (previous E) (sym e) ∙ later j hj))
+  no-two (suc j) (suc k) hj hk e =
+      ap suc (no-two j k (omega arith) (omega arith)
+      (own-differ (f j) (f k) (there j (omega arith)) (there k (omega arith)) (sym (later j hj) ∙ ap (previous E) e ∙ later k hk)))
+
 -- ---- a walk that does not end early
 
 module _ (E : List ℕ) (differ : own-twice E ≡ false) (long : ends-early E ≡ false) where
@@ -95,15 +110,6 @@ module _ (E : List ℕ) (differ : own-twice E ≡ false) (long : ends-early E �
   unfolding place
   walk-later k h = with-tag E 0 (own E (place E k)) (place-there (suc k) h)
 
-  -- go back from both places, step by step, to the first
-  walk-once : (j k : ℕ) → j < count E → k < count E → place E j ≡ place E k → j ≡ k
-  walk-once zero zero hj hk e = refl
-  walk-once zero (suc k) hj hk e = absurd (walk-first (place E k) (place-there k (omega arith)) (ap (previous E) e ∙ walk-later k hk))
-  walk-once (suc j) zero hj hk e = absurd (walk-first (place E j) (place-there j (omega arith)) (ap (previous E) (sym e) ∙ walk-later j hj))
-  walk-once (suc j) (suc k) hj hk e =
-      ap suc (walk-once j k (omega arith) (omega arith)
-      (own-one (place E j) (place E k) (place-there j (omega arith)) (place-there k (omega arith)) (sym (walk-later j hj) ∙ ap (previous E) e ∙ walk-later k hk)))
-
   in-order : (k : ℕ) → k < count E → nth (order E) k ≡ place E k
   unfolding order
   in-order k h = getD-table (count E) (place E) k h
@@ -113,7 +119,7 @@ module _ (E : List ℕ) (differ : own-twice E ≡ false) (long : ends-early E �
   walk-orders = record {
     in-all = omega (arith, length-table (count E) (place E));
     there = λ k h. rw (in-order k h) (place-there k h);
-    once = λ j k hj hk e. walk-once j k (omega arith) (omega arith) (sym (in-order j (omega arith)) ∙ e ∙ in-order k (omega arith));
+    once = λ j k hj hk e. no-two E (place E) place-there own-one walk-first walk-later j k (omega arith) (omega arith) (sym (in-order j (omega arith)) ∙ e ∙ in-order k (omega arith));
     own-differ = own-one;
     first = λ i h e. walk-first i (omega arith) (ap (previous E) (sym (in-order 0 (omega arith))) ∙ e);
     later = λ k h. ap (previous E) (in-order (suc k) h) ∙ walk-later k h ∙ ap (own E) (sym (in-order k (omega arith)));

@@ -17,7 +17,7 @@ pub record Different (n m : ℕ) (f : ℕ → ℕ) : Type 0 where
 abbrev instead : (n v : ℕ) → ℕ → ℕ
 instead n v x = cond (eqb x n) v x
 
--- n + 1 numbers below n do not differ: of one more of each, the last takes the place of n, and leaves
+-- n + 1 numbers below n do not all differ. Of n + 2 below n + 1, the last takes the place of n, and n + 1 below n are left
 too-many : (n : ℕ) (f : ℕ → ℕ) → Different (suc n) n f → ⊥
 too-many zero f d = omega (arith, d .below 0 (omega arith))
 too-many (suc n) f d = too-many n (λ k. instead n (f (suc n)) (f k)) (record { below = below; differ = differ })

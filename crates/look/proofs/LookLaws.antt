@@ -13,9 +13,9 @@ use Rattle.octets.specs.Octets.{part}
 use Rattle.stops.specs.Stops.{first-of}
 use Rattle.stops.specs.View.{check-number}
 use Rattle.stops.proofs.Laws.{first-stays, first-passes, passes}
-use Rattle.ring.specs.Ring.{Newest, Within, ring-wrong, read-ring, newest-record, half-named}
+use Rattle.ring.specs.Ring.{Newest, Unreadable, Within, ring-wrong, read-ring, newest-record, half-named}
 use Rattle.ring.specs.View as ring-view
-use Rattle.ring.proofs.NewestLaws.{newest-half-fits}
+use Rattle.ring.proofs.NewestLaws.{read-within, newest-half-fits}
 use Rattle.gcm.specs.Calls.{KeyLength}
 use Rattle.gcm.proofs.Keys.{whole-key}
 use Rattle.checkpoint.specs.Checkpoint.{head-length}
@@ -27,7 +27,7 @@ use Rattle.memories.specs.Stages.{of-newest}
 use Rattle.protocol.specs.Operations.{newest-half, look-stop, look, look-by, open-stretch, stretch-by}
 use Rattle.look.specs.View.{view-looked, view-stretch, looks}
 use Rattle.look.specs.Stages.{look-buffers, look-ring, of-half, look-half}
-use Rattle.look.specs.Seen.{Finds, Sees}
+use Rattle.look.specs.Seen.{read-unless, Finds, Sees}
 use Rattle.look.specs.declared.types.Found.{Found}
 use Rattle.look.specs.declared.types.Seen.{Seen}
 
@@ -55,18 +55,27 @@ module _ (pages slots : ℕ) (ring fram key : List ℕ) where
 
   -- ---- what is found of the ring
 
-  pub finds-stop : (f : Found) {s : ℕ} → first-of (look-buffers pages slots ring fram key) ≡ some s → check-number (f .check) ≡ some s → Finds f pages slots ring fram key
-  finds-stop f {s} e g = record { stop = g ∙ sym (first-stays (look-buffers pages slots ring fram key) (of-newest read) e); reads = λ n. no (sym g ∙ n) }
-    where
-      no : {A : Type 0} → _≡_ {A = Option ℕ} (some s) none → A
-      no z = let n : _≡_ {A = ℕ} 0 1 = cc in absurd (omega arith)
-
-  pub finds : (f : Found) → first-of (look-buffers pages slots ring fram key) ≡ none → ring-view.newest (f .newest) ≡ read → Within pages slots (ring-view.newest (f .newest))
-      → check-number (f .check) ≡ first-of (of-newest (ring-view.newest (f .newest))) → Finds f pages slots ring fram key
-  finds f e r w g = record {
-    stop = g ∙ ap (λ (n : Newest). first-of (of-newest n)) r ∙ sym (first-passes (look-buffers pages slots ring fram key) (of-newest read) e);
-    reads = λ n. (r, w);
+  pub finds-stop : (f : Found) {s : ℕ} → first-of (look-buffers pages slots ring fram key) ≡ some s → check-number (f .check) ≡ some s
+      → ring-view.newest (f .newest) ≡ Unreadable → Finds f pages slots ring fram key
+  finds-stop f e g r = record {
+    stop = g ∙ sym (first-stays (look-buffers pages slots ring fram key) (of-newest read) e);
+    reads = r ∙ sym (ap (λ (o : Option ℕ). read-unless o read) e);
   }
+
+  pub finds : (f : Found) → first-of (look-buffers pages slots ring fram key) ≡ none → ring-view.newest (f .newest) ≡ read
+      → check-number (f .check) ≡ first-of (of-newest (ring-view.newest (f .newest))) → Finds f pages slots ring fram key
+  finds f e r g = record {
+    stop = g ∙ ap (λ (n : Newest). first-of (of-newest n)) r ∙ sym (first-passes (look-buffers pages slots ring fram key) (of-newest read) e);
+    reads = r ∙ sym (ap (λ (o : Option ℕ). read-unless o read) e);
+  }
+
+  -- where none of the stops applies, the ring was read
+  was-read : (f : Found) → Finds f pages slots ring fram key → first-of (look-ring pages slots ring fram key) ≡ none → ring-view.newest (f .newest) ≡ read
+  unfolding first-of
+  was-read f g n =
+      let p = passes (look-ring pages slots ring fram key) n in
+      let b : first-of (look-buffers pages slots ring fram key) ≡ none = rw (p .0, p .1 .0, p .1 .1 .0) in
+      g .reads ∙ ap (λ (o : Option ℕ). read-unless o read) b
 
   -- the stops before a half is looked at
   pub ring-stop : {s : ℕ} → first-of (look-ring pages slots ring fram key) ≡ some s → stop ≡ some s
@@ -95,14 +104,15 @@ module _ (pages slots : ℕ) (ring fram key : List ℕ) where
       let p = passes _ n in
       let lines = p .1 .1 .1 in
       let fits : half-named newest < 2 = newest-half-fits pages slots ring (p .0) (lines .0) (lines .1 .0) in
-      let is : (rec : List ℕ) → rec ≡ newest-record ring slots (ring-view.newest (f .newest)) → rec ≡ newest = λ rec r. r ∙ ap (newest-record ring slots) (g .reads e .0) in
+      let reads = was-read f g n in
+      let is : (rec : List ℕ) → rec ≡ newest-record ring slots (ring-view.newest (f .newest)) → rec ≡ newest = λ rec r. r ∙ ap (newest-record ring slots) reads in
       record {
         none-applies = n;
         ring-right = p .0;
         fram-right = p .1 .0;
         key-long = whole-key (length key) (p .1 .1 .0);
-        reads = g .reads e .0;
-        within = g .reads e .1;
+        reads = reads;
+        within = subst (Within pages slots) (sym reads) (read-within pages slots ring (p .0));
         record-is = is;
         names-half = λ rec r. let same : half-named rec ≡ half-named newest = ap half-named (is rec r) in omega (arith, fits, same);
       }

@@ -16,7 +16,7 @@ pub struct Seen {
     pub length: usize,
 }
 
-// The stops before a half is looked at; where none applies, what the ring reads as.
+// The first stop that applies before a half is looked at, and what the ring reads as: unreadable behind 1, 2 and 3, where it is not read.
 pub struct Found {
     pub check: Check,
     pub newest: Newest,

@@ -157,7 +157,7 @@ fn dumps_of_long_lives(key_length: usize) {
     }
 }
 
-/// Two units' dumps in one lot.
+/// Two units' dumps together.
 #[test]
 fn dumps_of_two_units() {
     let mut random = Random::new(12);

@@ -25,15 +25,14 @@ returns : tie.Need-returns
 returns c =
     let checked = c .before .before .before in
     let a = start checked .args in
-    finds-stop (a .pages) (a .slots) (a .ring .now) (a .fram .now) (a .key .now) _ (sym (buffers-check checked) ∙ ap check-number (c .before .check .given .1)) refl
+    finds-stop (a .pages) (a .slots) (a .ring .now) (a .fram .now) (a .key .now) _ (sym (buffers-check checked) ∙ ap check-number (c .before .check .given .1)) refl refl
 
 returns-2 : tie.Need-returns-2
 returns-2 c =
     let told = c .before .before in
     let checked = told .before .before in
     let a = start checked .args in
-    let read = c .before .read-ring .ensures in
-    finds (a .pages) (a .slots) (a .ring .now) (a .fram .now) (a .key .now) _ (sym (buffers-check checked) ∙ ap check-number (told .enum-told .given .1)) (read .0) (read .1) (c .check-newest .ensures)
+    finds (a .pages) (a .slots) (a .ring .now) (a .fram .now) (a .key .now) _ (sym (buffers-check checked) ∙ ap check-number (told .enum-told .given .1)) (c .before .read-ring .ensures .0) (c .check-newest .ensures)
 
 pub find-spec : {M : Type 1} → statement M
 find-spec =
