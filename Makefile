@@ -18,7 +18,7 @@ hosts: kit
 
 demo: kit
 	@mkdir -p target/demo
-	rt check power_cuts ringview hex_export hex_import bench_trace ring_shapes_view factory_view chain_view > /dev/null
+	rt check power_cuts ringview hex_export hex_import bench_trace ring_shapes_view factory_view chain_view settings_view > /dev/null
 	@target/bin/power_cuts target/demo/ring.bin target/demo/fram.bin
 	@printf '\nThe memories as the last cut left them:\n'
 	@echo '    xxd -g 4 -c 20 target/demo/fram.bin'

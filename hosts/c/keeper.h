@@ -90,6 +90,11 @@ enum keeper_answer {
                                        are not 0, or the head is the older one; tried after 12 */
     KEEPER_BAD_ENTRIES = 21,        /* chain order: no entries, more than KEEPER_ENTRIES_LIMIT, or a broken one; tried before 4 */
     KEEPER_NO_ORDER = 22,           /* chain order: the entries have none */
+    KEEPER_BAD_LIST = 23,           /* settings: the list is not whole words, or its first word is absent or not kind 15 with value 1 or 2 */
+    KEEPER_BAD_KINDS = 24,          /* settings: a kind is missing, not the version's or not above the one before; write: kind 15, or one that is
+                                       not in the list */
+    KEEPER_BAD_VALUE = 25,          /* settings: a volume above 15 or a delay not of 5 to 300 seconds in the list; write: the new value out of
+                                       the kind's range */
     KEEPER_PAST_LAST_SHAPE = 26,    /* ring shape: the number is past the last of that size */
 
     KEEPER_GOING_ON = 256,          /* keeper_advance: more stores to come */
@@ -108,6 +113,13 @@ enum keeper_size {
     KEEPER_SESSION_SIZE = 48,
     KEEPER_ENTRY_SIZE = 32,         /* an entry of a chain */
     KEEPER_ENTRIES_LIMIT = 64       /* the most of them */
+};
+
+/* Kinds of words in a list of settings; 3 to 14 are of version 2 alone, and have no names yet. */
+enum keeper_kind {
+    KEEPER_VOLUME = 1,              /* 0 to 15 */
+    KEEPER_ALERT_DELAY = 2,         /* 5 to 300 seconds */
+    KEEPER_VERSION = 15             /* the first word's: 1 or 2 */
 };
 
 /* The largest packet number: 2^30 - 1. */
@@ -234,6 +246,17 @@ uint32_t keeper_ring_shape(size_t pages, size_t slots, size_t number, uint8_t *r
  */
 uint32_t keeper_factory_check(size_t pages, size_t slots, const uint8_t *ring, size_t ring_len,
                      const uint8_t *fram, size_t fram_len, const uint8_t *key, size_t key_len);
+
+/* Settings in the open part. A list is the whole part: words of 4 bytes, the most significant first, each with its kind in the top four bits
+ * and its value in the other 28. The first word has kind 15 and the list's version, 1 or 2. Then kinds rise: 1, the volume, 0 to 15; 2, the
+ * alert delay, 5 to 300 seconds; in version 2 also any of 3 to 14, with any value. Read writes volume and delay of a list of either version.
+ * Write changes the value of one setting where it stands, and no other word; a list that is written so is still read. keeper_look finds the
+ * list of the newest checkpoint; copy it out of the FRAM image, write to the copy, and save that.
+ * A setting that is not in the list cannot be written, and a list with a stop is not mended by a write.
+ * Stops: 23, 24, 25. Cost: one pass over the list, write two.
+ */
+uint32_t keeper_settings_read(const uint8_t *list, size_t list_len, uint32_t *volume, uint32_t *delay);
+uint32_t keeper_settings_write(uint8_t *list, size_t list_len, uint32_t kind, uint32_t value);
 
 /* Which dump came before which. An entry is 32 bytes, a checkpoint's previous tag and then its own: of a checkpoint as it stands in its half,
  * bytes 16 to 31 (12 to 27 in the older form) and the last 16. Entries stand one behind the other, 1 to 64 of them, unsorted. Writes their

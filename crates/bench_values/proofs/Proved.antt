@@ -3,11 +3,12 @@ use mathlib.Core.Path.{_≡_, refl}
 use Prim.Native.Nat.{ℕ}
 use lib.ListN.{length, length-replicate}
 use Rattle.octets.specs.Octets.{part, put, same, blank, number, bytes}
+use Rattle.octets.specs.Search.{first-below}
 use Rattle.octets.specs.Word.{word-at, kind-of, value-of, word}
 use Rattle.sbox.specs.Field.{xtime, times, power, inverse, affine, turned, sub-byte, _•_}
 use Rattle.ring.specs.Ring.{ring-wrong, slot-at, page-at, newest-record, nonce-in, nonce-used, not-newest, is-record, half-named, next-page, used-from, records, filled, alone, followed, reading, read-ring, target-page, target-slot, page-before, record-put}
 use Rattle.ring_shapes.specs.Shapes.{from-slot, from-page, shapes, with-records, ring-of, ring-number, size-wrong, past-last, shape-stop}
-use Rattle.chain.specs.Chain.{tag-at, first-below, entry-with, own-twice, first-entry, place, ends-early, order, entries-wrong, too-short, chain-stop, ordered-by, chain-order}
+use Rattle.chain.specs.Chain.{tag-at, entry-with, own-twice, first-entry, place, ends-early, order, entries-wrong, too-short, chain-stop, ordered-by, chain-order}
 use Rattle.stops.specs.Stops.{first-of}
 use Rattle.gcm.specs.Calls.{key-wrong}
 use Rattle.checkpoint.specs.Fram.{fram-wrong, half-length, half-at}

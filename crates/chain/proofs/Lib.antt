@@ -1,5 +1,4 @@
 -- Laws of chains of dumps.
-pub mod Search
 pub mod Pigeons
 pub mod Orders
 pub mod CallLaws

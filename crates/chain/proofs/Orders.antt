@@ -11,7 +11,7 @@ use Rattle.octets.specs.Octets.{same}
 use Rattle.octets.proofs.Laws.{same-equal, equal-same, unequal-same}
 use Rattle.octets.proofs.Tables.{length-table, getD-table, is-table}
 use Rattle.chain.specs.Chain.{count, tag-at, previous, own, nth, ChainOrder, entry-with, owner, follower, own-twice, first-entry, place, ends-early, order}
-use Rattle.chain.proofs.Search.{Found, found, none-below, some-ends, ends, only-one}
+use Rattle.octets.proofs.Search.{Found, found, none-below, some-ends, ends, only-one}
 use Rattle.chain.proofs.Pigeons.{Stands, each-stands}
 
 -- ---- an entry with a tag

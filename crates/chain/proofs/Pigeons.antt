@@ -5,8 +5,8 @@ use mathlib.Core.Bool.{Bool, true, false, cond}
 use native.Mathlib.Omega.{arith}
 use lib.Dec.{eqb, ltb}
 use borrow.Author.Tests.{eqb-true, eqb-false, ltb-true}
-use Rattle.chain.specs.Chain.{first-below}
-use Rattle.chain.proofs.Search.{found, none-below}
+use Rattle.octets.specs.Search.{first-below}
+use Rattle.octets.proofs.Search.{found, none-below}
 
 -- f 0 to f (n - 1) are numbers below m, and differ
 pub record Different (n m : ℕ) (f : ℕ → ℕ) : Type 0 where

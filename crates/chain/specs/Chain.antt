@@ -2,13 +2,14 @@
 -- behind the other, unsorted; an entry is known by its position, counted from 0.
 use Prim.Native.Nat.{ℕ, zero, suc, _+_, _*_, _/_, _%_, _<_}
 use mathlib.Core.Path.{_≡_}
-use mathlib.Core.Bool.{Bool, cond, not, _||_}
+use mathlib.Core.Bool.{Bool, not, _||_}
 use mathlib.Core.Option.{Option, none, some}
 use mathlib.Core.List.{List, [], _∷_}
 use lib.ListN.{length, getD}
 use lib.Dec.{eqb, ltb}
 use Rattle.octets.specs.Limits.{entry-length, entries-limit, tag-length}
 use Rattle.octets.specs.Octets.{part, put, same}
+use Rattle.octets.specs.Search.{first-below, some-below}
 use Rattle.octets.specs.Table.{table}
 use Rattle.stops.specs.Stops.{first-of}
 use Rattle.stops.specs.View.{check-number}
@@ -49,14 +50,6 @@ pub record ChainOrder (E ps : List ℕ) : Type 0 where
   pub later : (k : ℕ) → suc k < count E → previous E (nth ps (suc k)) ≡ own E (nth ps k)
 
 -- ---- how it is found
-
--- the first number below n for which a test holds; n if there is none
-unfoldable pub first-below : ℕ → (ℕ → Bool) → ℕ
-first-below zero test = 0
-first-below (suc n) test = cond (test 0) 0 (suc (first-below n (λ i. test (suc i))))
-
-abbrev pub some-below : ℕ → (ℕ → Bool) → Bool
-some-below n test = ltb (first-below n test) n
 
 -- the first entry that has a tag at an offset; `count E` if there is none
 unfoldable pub entry-with : (E : List ℕ) (offset : ℕ) → List ℕ → ℕ

@@ -16,6 +16,7 @@ use Rattle.protocol.specs.Types.{Session, Stretch, Looked, Restarts, Unseen, Pr
 use Rattle.protocol.specs.Calls.{Sizes, From, from-tag, from-session, SaveArguments, Saves, saves, PowersUp, Looks, Advances}
 use Rattle.protocol.specs.Operations.{Begin, Moved, staging-wrong, save-stop, save, power-up-stop, power-up, look, open-stretch, job-wrong, advance}
 use Rattle.intel_hex.specs.Export.{Export, export}
+use Rattle.settings.specs.Settings.{Reading, Volume-delay, Stopped, settings-read}
 use Rattle.job_bytes.specs.Bytes.{job-length, session-length, job-bytes, session-bytes, job-in, session-in}
 
 -- 0, or the number of a stop
@@ -170,3 +171,21 @@ exporting-by none e written = exporting-left 0 (e .text) (e .written)
 
 unfoldable pub export-call : (image text : List ℕ) → ℕ → Exporting
 export-call image text written = let e = export image text in exporting-by (e .stop) e written
+
+-- ---- settings (document 02, A.12)
+
+pub record SettingsLeft : Type 0 where
+  pub answer : ℕ
+  pub volume : ℕ
+  pub delay : ℕ
+
+abbrev pub settings-left : ℕ → ℕ → ℕ → SettingsLeft
+settings-left r volume delay = record { answer = r; volume = volume; delay = delay }
+
+-- from what the reader answers, and what stood behind the pointers
+abbrev pub settings-by : Reading → ℕ → ℕ → SettingsLeft
+settings-by (Stopped n) volume delay = settings-left n volume delay
+settings-by (Volume-delay v d) volume delay = settings-left 0 v d
+
+unfoldable pub settings-call : List ℕ → ℕ → ℕ → SettingsLeft
+settings-call L volume delay = settings-by (settings-read L) volume delay

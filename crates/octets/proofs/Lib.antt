@@ -4,3 +4,4 @@ pub mod Bytes
 pub mod Numbers
 pub mod Tables
 pub mod Lent
+pub mod Search

@@ -110,3 +110,16 @@ entry-length = 32
 
 abbrev pub entries-limit : ℕ
 entries-limit = 64
+
+-- ---- settings (document 02, A.12): the largest volume, the least and the largest alert delay in seconds, and the largest value of any kind, 2^28 − 1
+abbrev pub volume-limit : ℕ
+volume-limit = 15
+
+abbrev pub delay-least : ℕ
+delay-least = 5
+
+abbrev pub delay-limit : ℕ
+delay-limit = 300
+
+abbrev pub setting-limit : ℕ
+setting-limit = 268435455

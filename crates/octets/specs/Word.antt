@@ -1,4 +1,4 @@
--- Words of 32 bits, most significant byte first (document 01, second paragraph): the top two bits are the kind, the low 30 the value.
+-- Words of 32 bits, most significant byte first.
 use Prim.Native.Nat.{ℕ, _+_, _*_, _/_, _%_, _^_}
 use mathlib.Core.List.{List}
 use Rattle.octets.specs.Octets.{number, bytes}
@@ -6,6 +6,8 @@ use Rattle.octets.specs.Octets.{number, bytes}
 -- the word that stands at offset i
 unfoldable pub word-at : List ℕ → ℕ → ℕ
 word-at xs i = number xs i 4
+
+-- ---- a checkpoint's (document 01, second paragraph): the top two bits are the kind, the low 30 the value
 
 unfoldable pub kind-of : ℕ → ℕ
 kind-of w = w / 2 ^ 30
@@ -16,3 +18,11 @@ value-of w = w % 2 ^ 30
 -- the bytes of the word of a kind, 0 to 3, and a value
 unfoldable pub word : ℕ → ℕ → List ℕ
 word kind value = bytes 4 (kind * 2 ^ 30 + value)
+
+-- ---- a bench trace's and a setting's (document 02, A.4 and A.12): the top four bits are the kind, the low 28 the value
+
+abbrev pub kind4 : ℕ → ℕ
+kind4 w = w / 2 ^ 28
+
+abbrev pub value28 : ℕ → ℕ
+value28 w = w % 2 ^ 28

@@ -5,7 +5,7 @@ ghost use mathlib.Core.Path.{_≡_};
 ghost use Prim.Native.Nat.{_+_, _^_, _≤_, _<_};
 ghost use lib.ListN.{length, replicate};
 ghost use Rattle.octets.specs.Octets.{part, put, same, blank, bytes};
-ghost use Rattle.octets.specs.Word.{word-at, kind-of, value-of, word};
+ghost use Rattle.octets.specs.Word.{word-at, kind-of, value-of, word, kind4, value28};
 
 // The n bytes from offset i.
 pub fn part(s: &[u8], i: usize, n: usize) -> &[u8]
@@ -125,14 +125,14 @@ pub fn word_bytes(w: u32) -> [u8; 4]
     ]
 }
 
-// The kind of a word: its top two bits.
+// The kind of a checkpoint's word: its top two bits.
 pub fn kind_of(w: u32) -> u32
     ensures { λ r. ⌜ r ≡ kind-of w ⌝ }
 {
     w / 0x4000_0000
 }
 
-// The value of a word: its low 30 bits.
+// The value of a checkpoint's word: its low 30 bits.
 pub fn value_of(w: u32) -> usize
     ensures { λ r. ⌜ (r ≡ value-of w) × (r < 2 ^ 30) ⌝ }
 {
@@ -145,4 +145,18 @@ pub fn word_of(kind: u32, value: usize) -> [u8; 4]
     ensures { λ r. ⌜ r ≡ word kind value ⌝ }
 {
     word_bytes(kind * 0x4000_0000 + value as u32)
+}
+
+// The kind of a bench trace's or a setting's word: its top four bits.
+pub fn kind4(w: u32) -> u32
+    ensures { λ r. ⌜ (r ≡ kind4 w) × (r < 16) ⌝ }
+{
+    w / 0x1000_0000
+}
+
+// Its value: the low 28 bits.
+pub fn value28(w: u32) -> u32
+    ensures { λ r. ⌜ (r ≡ value28 w) × (r < 2 ^ 28) ⌝ }
+{
+    w % 0x1000_0000
 }

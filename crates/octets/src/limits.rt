@@ -53,3 +53,12 @@ pub const SHAPE_SLOTS_LIMIT: usize = 4;
 pub const ENTRY_LENGTH: usize = 32;
 
 pub const ENTRIES_LIMIT: usize = 64;
+
+// Settings: the largest volume, the least and the largest alert delay in seconds, and the largest value of any kind.
+pub const VOLUME_LIMIT: u32 = 15;
+
+pub const DELAY_LEAST: u32 = 5;
+
+pub const DELAY_LIMIT: u32 = 300;
+
+pub const SETTING_LIMIT: u32 = 268_435_455;

@@ -10,7 +10,7 @@ use lib.ListN.{getD}
 use Rattle.stops.specs.Stops.{first-of, then-stop}
 use Rattle.stops.specs.View.{stop-number}
 use Rattle.stops.specs.declared.Stop.{Stop}
-use Rattle.stops.specs.declared.Stop.the-variants.{RingSize, FramSize, KeyNonceTagSize, BufferSize, RingInUse, RingBlank, RingUnreadable, StaleSession, PagePending, NonceUsed, BadHead, TagDiffers, RestartLimit, BadJob, BadLine, BadChecksum, DataMisplaced, PacketTooLarge, NotFirstSave, BadTrace, BadEntries, NoOrder, PastLastShape}
+use Rattle.stops.specs.declared.Stop.the-variants.{RingSize, FramSize, KeyNonceTagSize, BufferSize, RingInUse, RingBlank, RingUnreadable, StaleSession, PagePending, NonceUsed, BadHead, TagDiffers, RestartLimit, BadJob, BadLine, BadChecksum, DataMisplaced, PacketTooLarge, NotFirstSave, BadTrace, BadEntries, NoOrder, BadList, BadKinds, BadValue, PastLastShape}
 
 -- the conditions of a list tried in turn, from what was found before them
 unfoldable pub tried : Option ℕ → List (ℕ × Bool) → Option ℕ
@@ -100,12 +100,12 @@ pub or-false : (a : Bool) → a || false ≡ a
 or-false true = refl
 or-false false = refl
 
--- the stops in the order of their numbers, from 1 on; 23 to 25 are none's, and the first stands in their places: no two have one number
+-- the stops in the order of their numbers, from 1 on: no two have one number
 stops : List Stop
 stops =
     RingSize ∷ FramSize ∷ KeyNonceTagSize ∷ BufferSize ∷ RingInUse ∷ RingBlank ∷ RingUnreadable ∷ StaleSession ∷ PagePending ∷ NonceUsed
     ∷ BadHead ∷ TagDiffers ∷ RestartLimit ∷ BadJob ∷ BadLine ∷ BadChecksum ∷ DataMisplaced ∷ PacketTooLarge ∷ NotFirstSave ∷ BadTrace
-    ∷ BadEntries ∷ NoOrder ∷ RingSize ∷ RingSize ∷ RingSize ∷ PastLastShape ∷ []
+    ∷ BadEntries ∷ NoOrder ∷ BadList ∷ BadKinds ∷ BadValue ∷ PastLastShape ∷ []
 
 stop-of : ℕ → Stop
 stop-of n = getD stops (n - 1) RingSize
@@ -134,6 +134,9 @@ back NotFirstSave = refl
 back BadTrace = refl
 back BadEntries = refl
 back NoOrder = refl
+back BadList = refl
+back BadKinds = refl
+back BadValue = refl
 back PastLastShape = refl
 
 pub stop-number-injective : (s t : Stop) → stop-number s ≡ stop-number t → s ≡ t
@@ -163,4 +166,7 @@ stop-number-short NotFirstSave = lit< tt
 stop-number-short BadTrace = lit< tt
 stop-number-short BadEntries = lit< tt
 stop-number-short NoOrder = lit< tt
+stop-number-short BadList = lit< tt
+stop-number-short BadKinds = lit< tt
+stop-number-short BadValue = lit< tt
 stop-number-short PastLastShape = lit< tt

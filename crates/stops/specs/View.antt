@@ -2,7 +2,7 @@
 use Prim.Native.Nat.{ℕ}
 use mathlib.Core.Option.{Option, none, some}
 use Rattle.stops.specs.declared.Stop.{Stop}
-use Rattle.stops.specs.declared.Stop.the-variants.{RingSize, FramSize, KeyNonceTagSize, BufferSize, RingInUse, RingBlank, RingUnreadable, StaleSession, PagePending, NonceUsed, BadHead, TagDiffers, RestartLimit, BadJob, BadLine, BadChecksum, DataMisplaced, PacketTooLarge, NotFirstSave, BadTrace, BadEntries, NoOrder, PastLastShape}
+use Rattle.stops.specs.declared.Stop.the-variants.{RingSize, FramSize, KeyNonceTagSize, BufferSize, RingInUse, RingBlank, RingUnreadable, StaleSession, PagePending, NonceUsed, BadHead, TagDiffers, RestartLimit, BadJob, BadLine, BadChecksum, DataMisplaced, PacketTooLarge, NotFirstSave, BadTrace, BadEntries, NoOrder, BadList, BadKinds, BadValue, PastLastShape}
 use Rattle.stops.specs.declared.Check.{Check}
 use Rattle.stops.specs.declared.Check.the-variants.{Pass, Stopped}
 
@@ -29,6 +29,9 @@ stop-number NotFirstSave = 19
 stop-number BadTrace = 20
 stop-number BadEntries = 21
 stop-number NoOrder = 22
+stop-number BadList = 23
+stop-number BadKinds = 24
+stop-number BadValue = 25
 stop-number PastLastShape = 26
 
 -- what the checks say: the number of a stop, or none where all pass

@@ -27,6 +27,9 @@ pub enum Stop {
     BadTrace,
     BadEntries,
     NoOrder,
+    BadList,
+    BadKinds,
+    BadValue,
     PastLastShape,
 }
 
@@ -63,6 +66,9 @@ pub fn stop_number(stop: Stop) -> u32
         Stop::BadTrace => 20,
         Stop::BadEntries => 21,
         Stop::NoOrder => 22,
+        Stop::BadList => 23,
+        Stop::BadKinds => 24,
+        Stop::BadValue => 25,
         Stop::PastLastShape => 26,
     }
 }

@@ -11,6 +11,7 @@ use lib.ListN.{length, length-replicate}
 use borrow.Author.Tests.{ltb-false}
 use Rattle.octets.specs.Octets.{part}
 use Rattle.octets.proofs.Laws.{length-part, length-put}
+use Rattle.octets.specs.Word.{value28}
 use Rattle.stops.proofs.Laws.{passes, neither}
 use Rattle.ring.specs.Ring.{page-before}
 use Rattle.checkpoint.specs.Fram.{half-length}
@@ -21,7 +22,7 @@ use Rattle.protocol.specs.Operations.{staging-wrong, Moved, in-phase, phase-wro
 use Rattle.protocol.specs.Recovery.{is-going}
 use Rattle.protocol.proofs.Advancing.{job-passes}
 use Rattle.protocol.proofs.Sequence.{words-in-order}
-use Rattle.trace.specs.Trace.{value, is-cut, bench-sizes, fram-length, bench-staging, start, started, stored-on, most-stores, stores-until, Bench, operation, operated, cut-set, step, after, blank-bench}
+use Rattle.trace.specs.Trace.{is-cut, bench-sizes, fram-length, bench-staging, start, started, stored-on, most-stores, stores-until, Bench, operation, operated, cut-set, step, after, blank-bench}
 use Rattle.trace.specs.Rule.{RunsToItsEnd}
 use Rattle.trace.proofs.Stores.{left-of, left-most, advance-fewer, refused-still, stored-still, stored-more}
 
@@ -157,7 +158,7 @@ step-kept : (key : List ℕ) (b : Bench) (w : ℕ) → length (step key b w .fra
 unfolding step cut-set operated
 step-kept key b w = go (is-cut w)
   where
-    go : (c : Bool) → length (cond c (cut-set b (value w)) (operated key b w) .fram) ≡ length (b .fram)
+    go : (c : Bool) → length (cond c (cut-set b (value28 w)) (operated key b w) .fram) ≡ length (b .fram)
     go true = refl
     go false = operation-kept key b w
 

@@ -11,6 +11,7 @@ use lib.Seq.{take-at}
 use Rattle.protocol.specs.Types.{this-firmware}
 use Rattle.octets.specs.Octets.{put}
 use Rattle.octets.proofs.Laws.{put-front}
+use Rattle.octets.specs.Word.{value28}
 use Rattle.protocol.specs.Types as types
 use Rattle.protocol.specs.Operations.{Moved, no-session, advance}
 use Rattle.protocol.specs.Recovery.{is-going}
@@ -19,7 +20,7 @@ use Rattle.ring_line.specs.Line.{line-limit, Short}
 use Rattle.jobs.specs.View.{view-job, view-session, view-start, view-progress, view-advanced}
 use Rattle.jobs.specs.declared.types.Started.{Started}
 use Rattle.jobs.specs.declared.types.Advanced.{Advanced}
-use Rattle.trace.specs.Trace.{value, is-cut, bench-sizes, bench-staging, start, start-progress, started, stored-on, stores-until, Bench, operation, session-from, session-after, operated, cut-set, step, line-after, printed}
+use Rattle.trace.specs.Trace.{is-cut, bench-sizes, bench-staging, start, start-progress, started, stored-on, stores-until, Bench, operation, session-from, session-after, operated, cut-set, step, line-after, printed}
 use Rattle.trace.specs.declared.unit.Unit.{Unit}
 use Rattle.trace.specs.View.{view-held, view-cut, view-unit, Starts, Stepped}
 use Rattle.trace.proofs.Stores.{stored-more}
@@ -69,7 +70,7 @@ module _ (u : Unit) (m : Moved) (x : Option types.Session) where
 -- ---- a word
 
 module _ (key : List ℕ) (b : Bench) (w : ℕ) where
-  step-cut : is-cut w ≡ true → step key b w ≡ cut-set b (value w)
+  step-cut : is-cut w ≡ true → step key b w ≡ cut-set b (value28 w)
   unfolding step
   step-cut e = rw e
 
@@ -85,7 +86,7 @@ module _ (key : List ℕ) (b : Bench) (w : ℕ) where
   unfolding printed
   line-printed e = rw e
 
-pub stepped-cut : (key : List ℕ) (u v : Unit) (w n : ℕ) (ring fram text : List ℕ) (at : ℕ) → is-cut w ≡ true → n ≡ value w → (view-held (v .held) ≡ view-held (u .held)) × (view-cut v ≡ some n)
+pub stepped-cut : (key : List ℕ) (u v : Unit) (w n : ℕ) (ring fram text : List ℕ) (at : ℕ) → is-cut w ≡ true → n ≡ value28 w → (view-held (v .held) ≡ view-held (u .held)) × (view-cut v ≡ some n)
     → Stepped key (view-unit u ring fram) w text at (record { unit = v; end = at }) ring fram text
 unfolding cut-set put
 stepped-cut key u v w n ring fram text at c e f =

@@ -1,6 +1,6 @@
 -- A recorded bench trace (document 02, A.4): which traces are run, what each of their words does to the bench's unit, and which lines are printed.
 -- `key` is the unit's, the same throughout a trace. Document 02 has it zero: that is what the program gives.
-use Prim.Native.Nat.{ℕ, zero, suc, _+_, _*_, _/_, _%_, _^_}
+use Prim.Native.Nat.{ℕ, zero, suc, _+_, _*_, _/_, _%_}
 use mathlib.Core.Bool.{Bool, false, not, cond, _&&_, _||_}
 use mathlib.Core.Option.{Option, none, some}
 use mathlib.Core.List.{List, [], _∷_, _++_}
@@ -8,7 +8,7 @@ use lib.ListN.{length, replicate}
 use lib.Dec.{eqb, ltb}
 use Rattle.octets.specs.Limits.{slot-length, part-limit, key-lengths, nonce-length, tag-length, trace-limit}
 use Rattle.octets.specs.Octets.{put, blank, erased, bytes}
-use Rattle.octets.specs.Word.{word-at}
+use Rattle.octets.specs.Word.{word-at, kind4, value28}
 use Rattle.stops.specs.Stops.{first-of}
 use Rattle.protocol.specs.Types.{Session, Progress, GoingOn, Saved, Restored, Refused, Start, Begun, Stopped, this-firmware}
 use Rattle.protocol.specs.Calls.{Sizes, sizes, From, from-tag, from-session, SaveArguments, Saves, saves, PowersUp}
@@ -19,19 +19,12 @@ use Rattle.ring_line.specs.Line.{line-limit}
 
 -- ---- the words
 
--- the top four bits: 1 first save, 2 save, 3 power-up, 4 cut
-abbrev pub kind : ℕ → ℕ
-kind w = w / 2 ^ 28
-
--- the low 28 bits
-abbrev pub value : ℕ → ℕ
-value w = w % 2 ^ 28
-
+-- kinds: 1 first save, 2 save, 3 power-up, 4 cut
 abbrev pub is-cut : ℕ → Bool
-is-cut w = eqb (kind w) 4
+is-cut w = eqb (kind4 w) 4
 
 abbrev pub is-operation : ℕ → Bool
-is-operation w = ltb 0 (kind w) && ltb (kind w) 4
+is-operation w = ltb 0 (kind4 w) && ltb (kind4 w) 4
 
 -- n words, from word k on
 unfoldable pub words-from : List ℕ → ℕ → ℕ → List ℕ
@@ -112,9 +105,9 @@ module _ (key ring fram : List ℕ) where
   -- the start that a word names
   unfoldable pub start : Option Session → ℕ → List ℕ → Begin
   start session w staging =
-      cond (eqb (kind w) 1) (save this-firmware ring fram (saving key (value w) staging zero-tag))
-      (cond (eqb (kind w) 2) (save-with session (value w) staging)
-      (power-up this-firmware ring fram (powering-up key (value w) staging)))
+      cond (eqb (kind4 w) 1) (save this-firmware ring fram (saving key (value28 w) staging zero-tag))
+      (cond (eqb (kind4 w) 2) (save-with session (value28 w) staging)
+      (power-up this-firmware ring fram (powering-up key (value28 w) staging)))
 
 -- a start before its first store
 unfoldable pub started : (ring fram : List ℕ) → Begin → Moved
@@ -171,7 +164,7 @@ unfoldable pub cut-set : Bench → ℕ → Bench
 cut-set b n = record { ring = b .ring; fram = b .fram; session = b .session; cut = some n }
 
 unfoldable pub step : (key : List ℕ) → Bench → ℕ → Bench
-step key b w = cond (is-cut w) (cut-set b (value w)) (operated key b w)
+step key b w = cond (is-cut w) (cut-set b (value28 w)) (operated key b w)
 
 unfoldable pub after : (key : List ℕ) → Bench → List ℕ → Bench
 after key b [] = b

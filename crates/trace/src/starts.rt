@@ -4,8 +4,6 @@ use crate::SLOTS;
 use crate::unit::Held;
 use crate::words::FIRST_SAVE;
 use crate::words::SAVE;
-use crate::words::kind;
-use crate::words::value;
 use keeper::From;
 use keeper::Start;
 use keeper::Started;
@@ -15,8 +13,10 @@ use keeper::no_job;
 use keeper::power_up;
 use octets::blank;
 use octets::copy_at;
+use octets::kind4;
 use octets::limits::PART_LIMIT;
 use octets::limits::TAG_LENGTH;
+use octets::value28;
 use octets::word_bytes;
 use stops::Stop;
 ghost use mathlib.Core.Path.{_≡_};
@@ -136,11 +136,11 @@ pub(crate) fn start(
 ) -> Started
     ensures { λ r. ⌜ Starts r (now (staging .exit)) (start (now (key .entry)) (now (ring .entry)) (now (fram .entry)) (view-held held) w (now (staging .entry))) ⌝ }
 {
-    if kind(w) == FIRST_SAVE {
-        return start_first(key, value(w), ring, fram, staging);
+    if kind4(w) == FIRST_SAVE {
+        return start_first(key, value28(w), ring, fram, staging);
     }
-    if kind(w) == SAVE {
-        return start_next(key, held, value(w), ring, fram, staging);
+    if kind4(w) == SAVE {
+        return start_next(key, held, value28(w), ring, fram, staging);
     }
-    start_power_up(key, value(w), ring, fram, staging)
+    start_power_up(key, value28(w), ring, fram, staging)
 }

@@ -4,7 +4,6 @@ use crate::PAGES;
 use crate::SLOTS;
 use crate::starts::start;
 use crate::words::is_cut;
-use crate::words::value;
 use keeper::Advanced;
 use keeper::Progress;
 use keeper::Session;
@@ -12,6 +11,7 @@ use keeper::Start;
 use keeper::Started;
 use keeper::no_session;
 use octets::copy_at;
+use octets::value28;
 use ring_line::Line;
 use ring_line::refused_line;
 use ring_line::ring_line;
@@ -229,7 +229,7 @@ impl Unit {
     {
         if is_cut(w) {
             return Step {
-                unit: self.with_cut(value(w) as usize),
+                unit: self.with_cut(value28(w) as usize),
                 end: at,
             };
         }

@@ -1,35 +1,22 @@
 // The words of a trace, and which traces are run.
+use octets::kind4;
 use octets::limits::TRACE_LIMIT;
 use octets::word_at;
 ghost use mathlib.Core.Path.{_≡_};
 ghost use mathlib.Core.Bool.{false};
-ghost use Prim.Native.Nat.{_^_, _<_};
-ghost use Rattle.trace.specs.Trace.{kind, value, is-cut, word-wrong, words-wrong, words-of, trace-wrong};
+ghost use Rattle.trace.specs.Trace.{is-cut, word-wrong, words-wrong, words-of, trace-wrong};
 
-// What a word is: its top four bits.
+// What a word is, by its kind.
 pub const FIRST_SAVE: u32 = 1;
 
 pub const SAVE: u32 = 2;
 
 pub const CUT: u32 = 4;
 
-pub(crate) fn kind(w: u32) -> u32
-    ensures { λ r. ⌜ r ≡ kind w ⌝ }
-{
-    w / 0x1000_0000
-}
-
-// The low 28 bits.
-pub(crate) fn value(w: u32) -> u32
-    ensures { λ r. ⌜ (r ≡ value w) × (r < 2 ^ 28) ⌝ }
-{
-    w % 0x1000_0000
-}
-
 pub(crate) fn is_cut(w: u32) -> bool
     ensures { λ r. ⌜ r ≡ is-cut w ⌝ }
 {
-    kind(w) == CUT
+    kind4(w) == CUT
 }
 
 // Whether a word is wrong; `after_cut` says whether the word before it is a cut.
@@ -39,7 +26,7 @@ fn word_wrong(after_cut: bool, w: u32) -> bool
     if is_cut(w) {
         return after_cut;
     }
-    let k = kind(w);
+    let k = kind4(w);
     !((0 < k) & (k < CUT))
 }
 

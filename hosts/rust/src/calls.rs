@@ -59,6 +59,8 @@ extern "C" {
     fn keeper_factory_check(pages: usize, slots: usize, ring: *const u8, ring_len: usize,
         fram: *const u8, fram_len: usize, key: *const u8, key_len: usize) -> u32;
     fn keeper_chain_order(entries: *const u8, entries_len: usize, positions: *mut u8, positions_len: usize) -> u32;
+    fn keeper_settings_read(list: *const u8, list_len: usize, volume: *mut u32, delay: *mut u32) -> u32;
+    fn keeper_settings_write(list: *mut u8, list_len: usize, kind: u32, value: u32) -> u32;
     fn keeper_wipe(buffer: *mut u8, buffer_len: usize);
 }
 
@@ -167,6 +169,18 @@ pub fn factory_check(sizes: Sizes, ring: &[u8], fram: &[u8], key: &[u8]) -> u32 
 pub fn chain_order(entries: &[u8], positions: &mut [u8]) -> u32 {
     // Sound: see the top of this file.
     unsafe { keeper_chain_order(entries.as_ptr(), entries.len(), positions.as_mut_ptr(), positions.len()) }
+}
+
+/// Reads the volume and the alert delay of a list of settings.
+pub fn settings_read(list: &[u8], volume: &mut u32, delay: &mut u32) -> u32 {
+    // Sound: see the top of this file.
+    unsafe { keeper_settings_read(list.as_ptr(), list.len(), volume, delay) }
+}
+
+/// Changes the setting of a kind where it stands in a list.
+pub fn settings_write(list: &mut [u8], kind: u32, value: u32) -> u32 {
+    // Sound: see the top of this file.
+    unsafe { keeper_settings_write(list.as_mut_ptr(), list.len(), kind, value) }
 }
 
 /// Zeroes a buffer of any length.

@@ -29,7 +29,8 @@
 //! [`hex_export`] and [`hex_import`] carry an image of either memory to a programmer and back, as Intel HEX;
 //! [`ring_shape`] makes every shape of a readable ring of a small size, for trying units at the bench; [`factory_check`]
 //! accepts exactly the memories that a first save leaves, for checking what an assembly house programs; [`chain_order`]
-//! tells in which order dumps of checkpoints were made.
+//! tells in which order dumps of checkpoints were made. [`settings_read`] and [`settings_write`] are for units that keep volume
+//! and alert delay in the open part.
 //!
 //! The code behind these calls is proved. This crate hands slices on as they are, and has no checks of its own.
 //!
@@ -507,6 +508,109 @@ pub fn factory_check(sizes: Sizes, ring: &[u8], fram: &[u8], key: &[u8]) -> Resu
 /// ```
 pub fn chain_order(entries: &[u8], positions: &mut [u8]) -> Result<(), Stop> {
     done(calls::chain_order(entries, positions))
+}
+
+/// What a list of settings says.
+#[derive(Clone, Copy, Debug, PartialEq, Eq)]
+pub struct Settings {
+    /// 0 to 15.
+    pub volume: u32,
+    /// The alert delay in seconds, 5 to 300.
+    pub delay: u32,
+}
+
+/// The kind of the first word of a list of settings, whose value is the list's version, 1 or 2.
+pub const VERSION: u32 = 15;
+/// The kind of the volume.
+pub const VOLUME: u32 = 1;
+/// The kind of the alert delay.
+pub const ALERT_DELAY: u32 = 2;
+
+/// Volume and alert delay of a list of settings, which is a checkpoint's whole open part.
+///
+/// A list is words of 4 bytes, the most significant first, each with its kind in the top four bits and its value in the
+/// other 28. The first has kind [`VERSION`]. Behind it kinds rise: [`VOLUME`] and [`ALERT_DELAY`], and in version 2 any of
+/// kinds 3 to 14, with any value.
+///
+/// # Errors
+///
+/// [`Stop::BadList`], [`Stop::BadKinds`], [`Stop::BadValue`].
+///
+/// # Saved, looked up after a cut, changed and saved again
+///
+/// ```
+/// use godwitshelf::*;
+///
+/// /// Advances a job to its end.
+/// fn finish(sizes: Sizes, ring: &mut [u8], fram: &mut [u8], staging: &[u8], mut job: Job) -> Result<Session, Stop> {
+///     loop {
+///         match advance(sizes, ring, fram, staging, &mut job)? {
+///             Progress::GoingOn => continue,
+///             Progress::Saved(session) | Progress::Restored(session) => return Ok(session),
+///         }
+///     }
+/// }
+///
+/// # fn main() -> Result<(), Stop> {
+/// let sizes = Sizes { pages: 3, slots: 2 };
+/// let mut ring = [0xFF; 16 * 3 * 2];
+/// let mut fram = [0; 256];
+/// let mut staging = [0; 128];
+/// let mut state = [0; calls::STATE];
+/// let key = [7; 32];
+///
+/// // A list of version 2: volume 3, a delay of 30 seconds, and a setting of kind 7 that this firmware does not know.
+/// let words = [VERSION << 28 | 2, VOLUME << 28 | 3, ALERT_DELAY << 28 | 30, 7 << 28 | 4711];
+/// let list: Vec<u8> = words.into_iter().flat_map(u32::to_be_bytes).collect();
+/// let first = Follows::StartingTag(&[9; 16]);
+/// let job = save(sizes, &ring, &fram, &key, &[1; 12], first, 0, &list, b"timer 00", &mut staging)?;
+/// let session = finish(sizes, &mut ring, &mut fram, &staging, job)?;
+///
+/// // A save with volume 15 is cut after five of its stores.
+/// let mut loud = list.clone();
+/// settings_write(&mut loud, VOLUME, 15)?;
+/// let follows = Follows::Session(&session);
+/// let mut job = save(sizes, &ring, &fram, &key, &[2; 12], follows, 1, &loud, b"timer 01", &mut staging)?;
+/// for _ in 0..5 {
+///     advance(sizes, &mut ring, &mut fram, &staging, &mut job)?;
+/// }
+///
+/// // What was recorded is still there. The secret part stays sealed.
+/// let looked = look(sizes, &ring, &fram, &key)?;
+/// assert_eq!(settings_read(looked.open_part)?, Settings { volume: 3, delay: 30 });
+/// let mut list = looked.open_part.to_vec();
+///
+/// // The unit powers up, is set to volume 9, and saves.
+/// let powered_up = power_up(sizes, &ring, &fram, &key, &[3; 12], &mut staging, &mut state)?;
+/// let session = finish(sizes, &mut ring, &mut fram, &staging, powered_up.job)?;
+/// settings_write(&mut list, VOLUME, 9)?;
+/// let follows = Follows::Session(&session);
+/// let job = save(sizes, &ring, &fram, &key, &[4; 12], follows, 2, &list, b"timer 02", &mut staging)?;
+/// finish(sizes, &mut ring, &mut fram, &staging, job)?;
+///
+/// // Kind 7 is kept.
+/// let looked = look(sizes, &ring, &fram, &key)?;
+/// assert_eq!(settings_read(looked.open_part)?, Settings { volume: 9, delay: 30 });
+/// assert_eq!(looked.open_part[12..], (7u32 << 28 | 4711).to_be_bytes());
+/// # Ok(())
+/// # }
+/// ```
+pub fn settings_read(list: &[u8]) -> Result<Settings, Stop> {
+    let (mut volume, mut delay) = (0, 0);
+    done(calls::settings_read(list, &mut volume, &mut delay))?;
+    Ok(Settings { volume, delay })
+}
+
+/// Changes the value of one setting where it stands in a list, and no other word. A list that was read before is read after.
+///
+/// A setting that is not in the list cannot be written, and a list with a stop is not mended by a write.
+///
+/// # Errors
+///
+/// [`Stop::BadList`], [`Stop::BadKinds`] (also for kind 15 and for one that is not in the list), [`Stop::BadValue`] (also for
+/// the new value: of kinds 3 to 14, one of more than 28 bits).
+pub fn settings_write(list: &mut [u8], kind: u32, value: u32) -> Result<(), Stop> {
+    done(calls::settings_write(list, kind, value))
 }
 
 /// Zeroes a buffer of any length.

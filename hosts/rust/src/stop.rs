@@ -54,13 +54,21 @@ pub enum Stop {
     BadEntries = 21,
     /// 22: the entries have no chain order.
     NoOrder,
+    /// 23: a list of settings is not whole words, or its first word is absent or not kind 15 with value 1 or 2.
+    BadList,
+    /// 24: a kind is missing, not the version's or not above the one before; of [`settings_write`](crate::settings_write),
+    /// also kind 15, or one that is not in the list.
+    BadKinds,
+    /// 25: a volume above 15, or a delay not of 5 to 300 seconds; of [`settings_write`](crate::settings_write), also the new
+    /// value out of the kind's range.
+    BadValue,
     /// 26: the number is past the last ring of that size.
     PastLastShape = 26,
 }
 
 impl Stop {
     /// Every stop, by its number.
-    pub const ALL: [Stop; 22] = [
+    pub const ALL: [Stop; 25] = [
         Stop::RingSize,
         Stop::FramSize,
         Stop::KeyNonceTagSize,
@@ -82,10 +90,13 @@ impl Stop {
         Stop::NotFirstSave,
         Stop::BadEntries,
         Stop::NoOrder,
+        Stop::BadList,
+        Stop::BadKinds,
+        Stop::BadValue,
         Stop::PastLastShape,
     ];
 
-    /// The stop's number, 1 to 19, 21, 22 or 26.
+    /// The stop's number, 1 to 19 or 21 to 26.
     pub const fn number(self) -> u32 {
         self as u32
     }
@@ -134,6 +145,9 @@ impl Stop {
             }
             Stop::BadEntries => "no entries, more than 64, or a broken one",
             Stop::NoOrder => "no chain order",
+            Stop::BadList => "list of settings not whole words, or its first word absent or wrong",
+            Stop::BadKinds => "kinds of settings missing, not the version's or not rising; or none to be written",
+            Stop::BadValue => "value of a setting out of range",
             Stop::PastLastShape => "number past the last ring of that size",
         }
     }
@@ -155,7 +169,7 @@ mod tests {
     fn numbers_are_the_documents_and_lead_back() {
         for number in 0..300 {
             let stop = Stop::from_number(number);
-            assert_eq!(stop.map(Stop::number), matches!(number, 1..=19 | 21 | 22 | 26).then_some(number));
+            assert_eq!(stop.map(Stop::number), matches!(number, 1..=19 | 21..=26).then_some(number));
         }
     }
 

@@ -13,7 +13,7 @@ use borrow.Author.Tests.{eq-eqb, ne-eqb}
 use Rattle.octets.specs.Limits.{entries-limit}
 use Rattle.octets.proofs.Tables.{Filled, fill-none, fill-more, is-table}
 use Rattle.chain.specs.Chain.{count, entry-with, own, place, ends-early, order}
-use Rattle.chain.proofs.Search.{NoneBefore, none-yet, none-more, some-stops, some-ends}
+use Rattle.octets.proofs.Search.{NoneBefore, none-yet, none-more, some-stops, some-ends}
 use Rattle.chain.proofs.Orders.{end-test, place-small}
 use Rattle.chain.proofs.ends_early.Statement.{statement}
 use Rattle.chain.proofs.ends_early.Tie as tie

@@ -5,7 +5,7 @@ use native.Mathlib.Omega.{arith}
 use borrow.Author.Needs.{needs}
 use Rattle.octets.specs.Octets.{same}
 use Rattle.chain.specs.Chain.{count, tag-at, entry-with}
-use Rattle.chain.proofs.Search.{NoneBefore, none-yet, none-more, stops, ends}
+use Rattle.octets.proofs.Search.{NoneBefore, none-yet, none-more, stops, ends}
 use Rattle.chain.proofs.Orders.{tag-test, tag-tested}
 use Rattle.chain.proofs.entry_with.Statement.{statement}
 use Rattle.chain.proofs.entry_with.Tie as tie

@@ -6,7 +6,7 @@ use borrow.Author.Needs.{needs}
 use borrow.Author.Tests.{eq-eqb, ne-eqb}
 use Rattle.octets.specs.Limits.{tag-length}
 use Rattle.chain.specs.Chain.{count, previous, entry-with, owner, first-entry}
-use Rattle.chain.proofs.Search.{NoneBefore, none-yet, none-more, stops, ends}
+use Rattle.octets.proofs.Search.{NoneBefore, none-yet, none-more, stops, ends}
 use Rattle.chain.proofs.Orders.{first-test}
 use Rattle.chain.proofs.first_entry.Statement.{statement}
 use Rattle.chain.proofs.first_entry.Tie as tie

@@ -8,7 +8,7 @@ use borrow.Author.Needs.{needs}
 use borrow.Author.Tests.{eq-eqb, ne-eqb}
 use Rattle.octets.specs.Limits.{tag-length}
 use Rattle.chain.specs.Chain.{count, own, entry-with, owner, own-twice}
-use Rattle.chain.proofs.Search.{NoneBefore, none-yet, none-more, some-stops, some-ends}
+use Rattle.octets.proofs.Search.{NoneBefore, none-yet, none-more, some-stops, some-ends}
 use Rattle.chain.proofs.Orders.{own-test}
 use Rattle.chain.proofs.own_twice.Statement.{statement}
 use Rattle.chain.proofs.own_twice.Tie as tie

@@ -1,12 +1,12 @@
 -- Laws of a search: the first number below n for which a test holds, and whether there is one. Assumes nothing.
 use Prim.Native.Nat.{ℕ, zero, suc, _+_, _≤_, _<_}
-use mathlib.Core.Path.{_≡_, refl, sym, ap, _∙_}
+use mathlib.Core.Path.{_≡_, refl, sym, ap, ap₂, _∙_}
 use mathlib.Core.Bool.{Bool, true, false, cond, true≢false}
 use native.Mathlib.Omega.{arith}
 use native.Mathlib.Decide.{ℕ-discrete}
 use lib.Dec.{ltb}
 use borrow.Author.Tests.{ltb-true, ltb-false, lt-ltb, le-ltb}
-use Rattle.chain.specs.Chain.{first-below, some-below}
+use Rattle.octets.specs.Search.{first-below, some-below}
 
 -- the test holds for no number before k
 abbrev pub NoneBefore : (ℕ → Bool) → ℕ → Type 0
@@ -43,6 +43,12 @@ is-found n test k a =
     let not-less : m < k → ⊥ = λ h. true≢false (sym (b .holds (omega (arith, a .within))) ∙ a .before m h) in
     let not-more : k < m → ⊥ = λ h. true≢false (sym (a .holds (omega (arith, b .within))) ∙ b .before k h) in
     omega (arith, not-less, not-more)
+
+-- two tests that agree find the same
+pub same-search : (n : ℕ) (s t : ℕ → Bool) → ((i : ℕ) → i < n → s i ≡ t i) → first-below n s ≡ first-below n t
+unfolding first-below
+same-search zero s t h = refl
+same-search (suc n) s t h = ap₂ (λ (b : Bool) (m : ℕ). cond b 0 (suc m)) (h 0 (omega arith)) (same-search n (λ i. s (suc i)) (λ i. t (suc i)) (λ i l. h (suc i) (omega arith)))
 
 -- ---- a loop that tries one number after the other
 

@@ -1,0 +1,124 @@
+-- The stops of a list, and the outcomes of reader and writer. Assumes nothing.
+use Prim.Native.Nat.{ℕ, _+_, _*_, _^_, _≤_, _<_}
+use mathlib.Core.Path.{_≡_, sym, ap, _∙_}
+use mathlib.Core.Bool.{Bool, true, false, cond, _||_}
+use mathlib.Core.Option.{Option, none, some}
+use mathlib.Core.List.{List, [], _∷_}
+use native.Mathlib.Omega.{arith}
+use lib.ListN.{length}
+use lib.Dec.{eqb, ltb}
+use borrow.Author.Tests.{eqb-false, ltb-false}
+use Rattle.octets.specs.Limits.{volume-limit, delay-least, delay-limit, setting-limit}
+use Rattle.octets.specs.Octets.{put, bytes}
+use Rattle.stops.specs.Stops.{first-of}
+use Rattle.stops.proofs.Laws.{passes, neither}
+use Rattle.settings.specs.Settings.{count, kind-at, value-at, place, missing, list-wrong, kinds-wrong, value-wrong, values-wrong, list-stop, Volume-delay, Stopped, read-stop, read-by, settings-read, write-stop, changed, written-by, settings-write}
+use Rattle.settings.proofs.Laws.{Whole, Kinds, whole, kinds, there, kind-small, volume-place, delay-place}
+
+-- ---- the stops
+
+-- 25 looks at the second and the third word
+pub values-in-front : (L : List ℕ) → Whole L → Kinds L → value-wrong 1 (value-at L 1) || value-wrong 2 (value-at L 2) ≡ values-wrong L
+unfolding values-wrong
+values-in-front L w k = rw (volume-place L w k, delay-place L w k)
+
+module _ (L : List ℕ) (kind-refused value-refused : Bool) where
+  pub stops-23 : list-wrong L ≡ true → some 23 ≡ list-stop L kind-refused value-refused
+  unfolding list-stop first-of
+  stops-23 l = rw l
+
+  pub stops-24 : list-wrong L ≡ false → kinds-wrong L || kind-refused ≡ true → some 24 ≡ list-stop L kind-refused value-refused
+  unfolding list-stop first-of
+  stops-24 l k = rw (l, k)
+
+  pub stops-25 : list-wrong L ≡ false → kinds-wrong L || kind-refused ≡ false
+      → cond (values-wrong L || value-refused) (some 25) none ≡ list-stop L kind-refused value-refused
+  unfolding list-stop first-of
+  stops-25 l k = rw (l, k)
+
+  -- what is known where there is none
+  pub record Passed : Type 0 where
+    pub is-whole : Whole L
+    pub has-kinds : Kinds L
+    pub list-right : list-wrong L ≡ false
+    pub kinds-right : kinds-wrong L ≡ false
+    pub values-right : values-wrong L ≡ false
+    pub kind-taken : kind-refused ≡ false
+    pub value-taken : value-refused ≡ false
+
+  pub passed : list-stop L kind-refused value-refused ≡ none → Passed
+  unfolding list-stop
+  passed e =
+      let p = passes ((23, list-wrong L) ∷ (24, kinds-wrong L || kind-refused) ∷ (25, values-wrong L || value-refused) ∷ []) e in
+      let k = neither _ _ (p .1 .0) in
+      let v = neither _ _ (p .1 .1 .0) in
+      let w = whole L (p .0) in
+      record { is-whole = w; has-kinds = kinds L w (k .0); list-right = p .0; kinds-right = k .0; values-right = v .0; kind-taken = k .1; value-taken = v .1 }
+
+  pub passes-all : list-wrong L ≡ false → kinds-wrong L ≡ false → values-wrong L ≡ false → kind-refused ≡ false → value-refused ≡ false
+      → list-stop L kind-refused value-refused ≡ none
+  unfolding list-stop first-of
+  passes-all l k v a b = rw (l, k, v, a, b)
+
+-- ---- the reader
+
+module _ (L : List ℕ) where
+  pub stopped : (s : ℕ) → some s ≡ list-stop L false false → Stopped s ≡ settings-read L
+  unfolding settings-read read-stop read-by
+  stopped s e = rw (sym e)
+
+  pub read : (a b : ℕ) → none ≡ list-stop L false false → a ≡ value-at L 1 → b ≡ value-at L 2 → Volume-delay a b ≡ settings-read L
+  unfolding settings-read read-stop read-by
+  read a b e f g =
+      let p = passed L false false (sym e) in
+      rw (sym e, volume-place L (p .is-whole) (p .has-kinds), delay-place L (p .is-whole) (p .has-kinds), f, g)
+
+-- ---- the writer
+
+-- a value that a kind takes has 28 bits
+value-small : (k v : ℕ) → value-wrong k v ≡ false → v < 2 ^ 28
+unfolding value-wrong
+value-small k v = go (eqb k 1) (eqb k 2)
+  where
+    go : (a b : Bool) → cond a (ltb volume-limit v) (cond b (ltb v delay-least || ltb delay-limit v) (ltb setting-limit v)) ≡ false → v < 2 ^ 28
+    go true b e = omega (arith, ltb-false volume-limit v e)
+    go false true e = omega (arith, ltb-false delay-limit v (neither (ltb v delay-least) (ltb delay-limit v) e .1))
+    go false false e = omega (arith, ltb-false setting-limit v e)
+
+-- the word that is written over: it is a setting, of a kind that fits four bits
+pub record Writes (L : List ℕ) (k v : ℕ) : Type 0 where
+  pub behind-first : 1 ≤ place L k
+  pub within : place L k < count L
+  pub has-kind : kind-at L (place L k) ≡ k
+  pub room : 4 * place L k + 4 ≤ length L
+  pub kind-small : k < 15
+  pub value-small : v < 2 ^ 28
+
+pub writes : (L : List ℕ) (k v : ℕ) → write-stop L k v ≡ none → Writes L k v
+unfolding write-stop
+writes L k v e =
+    let p = passed L (eqb k 15 || missing L k) (value-wrong k v) e in
+    let b = neither _ _ (p .kind-taken) in
+    let t = there L k (b .1) in
+    let not-first : place L k ≡ 0 → ⊥ = λ z. eqb-false k 15 (b .0) (sym (t .1) ∙ ap (kind-at L) z ∙ p .is-whole .first) in
+    let behind : 1 ≤ place L k = omega (arith, not-first) in
+    record { behind-first = behind; within = t .0; has-kind = t .1; room = omega (arith, t .0, p .is-whole .words); kind-small = omega (arith, kind-small L (p .has-kinds .rising) (place L k) behind (t .0), t .1); value-small = value-small k v (p .value-taken) }
+
+module _ (L : List ℕ) (k v : ℕ) where
+  -- the stop, from what the code finds
+  pub write-stopped : (o : Option ℕ) (at : ℕ) (wrong : Bool) → at ≡ place L k → wrong ≡ value-wrong k v
+      → o ≡ list-stop L (eqb k 15 || eqb at (count L)) wrong → o ≡ write-stop L k v
+  unfolding write-stop
+  write-stopped o at wrong e f g = g ∙ (λ i. list-stop L (eqb k 15 || eqb (e i) (count L)) (f i))
+
+  pub is-changed : (left : List ℕ) (at : ℕ) → at ≡ place L k → left ≡ put L (4 * at) (bytes 4 (k * 2 ^ 28 + v)) → left ≡ changed L k v
+  unfolding changed
+  is-changed left at e f = f ∙ ap (λ (i : ℕ). put L (4 * i) (bytes 4 (k * 2 ^ 28 + v))) e
+
+  pub refused : (s : ℕ) → some s ≡ write-stop L k v → record { stop = some s; list = L } ≡ settings-write L k v
+  unfolding settings-write written-by
+  refused s e = rw (sym e)
+
+  pub written : (left : List ℕ) → none ≡ write-stop L k v → left ≡ changed L k v → record { stop = none; list = left } ≡ settings-write L k v
+  unfolding settings-write written-by
+  written left e f = rw (sym e, f)

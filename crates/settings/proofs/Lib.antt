@@ -1,0 +1,4 @@
+-- Laws of settings.
+pub mod Laws
+pub mod CallLaws
+pub mod Theorems

@@ -1,0 +1,3 @@
+-- Settings in the open part.
+pub mod Settings
+pub mod Rules
