@@ -8,7 +8,7 @@ use crate::firmware::{Firmware, KEEPER};
 use crate::histories::generated;
 use crate::layout::{half_of, number, open_half, read_ring, tag_of, Checkpoint, Form, Reading};
 use crate::operations::{Lent, Operation, DONE, GOING_ON};
-use crate::program::program;
+use crate::program::{output, program};
 use crate::random::Random;
 use godwitshelf::{calls, chain_order, Stop};
 use std::collections::{BTreeMap, BTreeSet};
@@ -448,23 +448,6 @@ fn the_first_number_that_applies() {
 }
 
 // The program.
-
-/// What a program prints, given its input in pieces of so many bytes.
-fn output(mut command: Command, input: &[u8], piece: usize) -> String {
-    let mut child = command.stdin(Stdio::piped()).stdout(Stdio::piped()).stderr(Stdio::piped()).spawn().unwrap();
-    let mut pipe = child.stdin.take().unwrap();
-    for bytes in input.chunks(piece) {
-        // It may end before it has read all.
-        if pipe.write_all(bytes).is_err() {
-            break;
-        }
-    }
-    drop(pipe);
-    let output = child.wait_with_output().unwrap();
-    assert_eq!(String::from_utf8_lossy(&output.stderr), "");
-    assert!(output.status.success());
-    String::from_utf8(output.stdout).unwrap()
-}
 
 fn viewed(entries: &[u8], piece: usize) -> String {
     output(Command::new(program("chain_view")), entries, piece)

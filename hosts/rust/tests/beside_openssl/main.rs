@@ -1,5 +1,5 @@
 //! The keeper beside OpenSSL: every answer and every lent byte is compared with what document 01 and document 02's A.2 and
-//! A.5 to A.11 say, worked out here anew over OpenSSL's AES-128-GCM and AES-256-GCM; of A.4's and A.9's to A.11's programs,
+//! A.5 to A.12 say, worked out here anew over OpenSSL's AES-128-GCM and AES-256-GCM; of A.4's and A.9's to A.12's programs,
 //! what they print. Nothing in this folder uses the keeper to say what the keeper should do. The older firmwares, which a unit may
 //! have had before, are worked out here likewise, from the documents up to them.
 
@@ -37,6 +37,7 @@ mod program;
 mod random;
 mod ring_shapes;
 mod seal_open;
+mod settings;
 mod traces;
 mod typed;
 mod unit;
