@@ -9,13 +9,15 @@ use Rattle.sbox.specs.Field.{xtime, times, power, inverse, affine, turned, sub-
 use Rattle.ring.specs.Ring.{ring-wrong, slot-at, page-at, newest-record, nonce-in, nonce-used, not-newest, is-record, half-named, next-page, used-from, records, filled, alone, followed, reading, read-ring, target-page, target-slot, page-before, record-put}
 use Rattle.ring_shapes.specs.Shapes.{from-slot, from-page, shapes, with-records, ring-of, ring-number, size-wrong, past-last, shape-stop}
 use Rattle.chain.specs.Chain.{tag-at, entry-with, own-twice, first-entry, place, ends-early, order, entries-wrong, too-short, chain-stop, ordered-by, chain-order}
+use Rattle.settings.specs.Settings as settings
+use Rattle.settings.specs.Settings.{list-wrong, kind-wrong, kinds-wrong, value-wrong, values-wrong, list-stop, read-stop, write-stop, changed, written-by, settings-write}
 use Rattle.stops.specs.Stops.{first-of}
 use Rattle.gcm.specs.Calls.{key-wrong}
 use Rattle.checkpoint.specs.Fram.{fram-wrong, half-length, half-at}
 use Rattle.checkpoint.specs.Checkpoint.{Older, Longer, words, part-wrong, sealed}
 use Rattle.checkpoint.specs.Half.{form-of, kind-at, value-at, open-length, secret-length, stored-restarts, kinds-from, stored-length, good-head}
 use Rattle.checkpoint.proofs.SealedLaws.{length-sealed}
-use Rattle.bench_values.specs.Values.{M13, key, zeros, table, orders, one-save, keys, rings, new-units, chains, many-entries, Agree, Values}
+use Rattle.bench_values.specs.Values.{M13, key, zeros, table, orders, one-save, keys, rings, new-units, chains, many-entries, lists-read, lists-written, Agree, Values}
 use Rattle.protocol.specs.Operations.{parts-wrong, state-wrong, staging-wrong, packet-wrong, session-wrong, save-restarts, larger, newest-half, from-wrong, stale, ring-lines, save-stop, half-lines, power-up-stop, look-stop}
 use Rattle.protocol.specs.Journal.{stores-of, erase-if}
 use Rattle.factory.specs.Factory.{not-first, factory-stop}
@@ -62,6 +64,14 @@ many-entries-agree : Agree many-entries
 unfolding chain-stop entries-wrong too-short first-of
 many-entries-agree = rw (zeros-long 2048, zeros-long 2049, zeros-long 2080)
 
+lists-read-agree : Agree lists-read
+unfolding read-stop list-stop list-wrong kinds-wrong kind-wrong values-wrong value-wrong settings.place first-below word-at number bytes first-of
+lists-read-agree = refl
+
+lists-written-agree : Agree lists-written
+unfolding settings-write written-by write-stop changed list-stop list-wrong kinds-wrong kind-wrong values-wrong value-wrong settings.place first-below word-at number bytes put first-of
+lists-written-agree = refl
+
 pub values : Values
 unfolding Values
-values = (table-agrees, orders-agree, one-save-agrees, keys-agree, rings-agree, new-units-agree, chains-agree, many-entries-agree)
+values = (table-agrees, orders-agree, one-save-agrees, keys-agree, rings-agree, new-units-agree, chains-agree, many-entries-agree, lists-read-agree, lists-written-agree)

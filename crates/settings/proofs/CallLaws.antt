@@ -4,11 +4,11 @@ use mathlib.Core.Path.{_≡_, sym, ap, _∙_}
 use mathlib.Core.Bool.{Bool, true, false, cond, _||_}
 use mathlib.Core.Option.{Option, none, some}
 use mathlib.Core.List.{List, [], _∷_}
+use native.Mathlib.Decide.{ℕ-discrete}
 use native.Mathlib.Omega.{arith}
 use lib.ListN.{length}
-use lib.Dec.{eqb, ltb}
-use borrow.Author.Tests.{eqb-false, ltb-false}
-use Rattle.octets.specs.Limits.{volume-limit, delay-least, delay-limit, setting-limit}
+use lib.Dec.{eqb}
+use borrow.Author.Tests.{eqb-false, ne-eqb, ltb-false}
 use Rattle.octets.specs.Octets.{put, bytes}
 use Rattle.stops.specs.Stops.{first-of}
 use Rattle.stops.proofs.Laws.{passes, neither}
@@ -60,6 +60,31 @@ module _ (L : List ℕ) (kind-refused value-refused : Bool) where
   unfolding list-stop first-of
   passes-all l k v a b = rw (l, k, v, a, b)
 
+-- ---- the values that a kind takes
+
+pub volume-range : (v : ℕ) → value-wrong 1 v ≡ false → v ≤ 15
+unfolding value-wrong
+volume-range v e = ltb-false _ _ e
+
+pub delay-range : (v : ℕ) → value-wrong 2 v ≡ false → (5 ≤ v) × (v ≤ 300)
+unfolding value-wrong
+delay-range v e =
+    let b = neither _ _ e in
+    (ltb-false _ _ (b .0), ltb-false _ _ (b .1))
+
+other-range : (k v : ℕ) → (k ≡ 1 → ⊥) → (k ≡ 2 → ⊥) → value-wrong k v ≡ false → v ≤ 268435455
+unfolding value-wrong
+other-range k v a b e = ltb-false _ _ (rw (ne-eqb k 1 a, ne-eqb k 2 b) at e)
+
+-- of 28 bits
+value-small : (k v : ℕ) → value-wrong k v ≡ false → v < 2 ^ 28
+value-small k v e = go (ℕ-discrete k 1) (ℕ-discrete k 2)
+  where
+    go : Dec (k ≡ 1) → Dec (k ≡ 2) → v < 2 ^ 28
+    go (yes a) d = omega (arith, volume-range v (ap (λ (j : ℕ). value-wrong j v) (sym a) ∙ e))
+    go (no a) (yes b) = omega (arith, delay-range v (ap (λ (j : ℕ). value-wrong j v) (sym b) ∙ e) .1)
+    go (no a) (no b) = omega (arith, other-range k v a b e)
+
 -- ---- the reader
 
 module _ (L : List ℕ) where
@@ -74,16 +99,6 @@ module _ (L : List ℕ) where
       rw (sym e, volume-place L (p .is-whole) (p .has-kinds), delay-place L (p .is-whole) (p .has-kinds), f, g)
 
 -- ---- the writer
-
--- a value that a kind takes has 28 bits
-value-small : (k v : ℕ) → value-wrong k v ≡ false → v < 2 ^ 28
-unfolding value-wrong
-value-small k v = go (eqb k 1) (eqb k 2)
-  where
-    go : (a b : Bool) → cond a (ltb volume-limit v) (cond b (ltb v delay-least || ltb delay-limit v) (ltb setting-limit v)) ≡ false → v < 2 ^ 28
-    go true b e = omega (arith, ltb-false volume-limit v e)
-    go false true e = omega (arith, ltb-false delay-limit v (neither (ltb v delay-least) (ltb delay-limit v) e .1))
-    go false false e = omega (arith, ltb-false setting-limit v e)
 
 -- the word that is written over: it is a setting, of a kind that fits four bits
 pub record Writes (L : List ℕ) (k v : ℕ) : Type 0 where

@@ -23,7 +23,7 @@ use Rattle.stops.proofs.Laws.{neither}
 use Rattle.settings.specs.Settings.{count, kind-at, value-at, place, missing, setting, version, volume, delay, list-wrong, last-kind, kind-wrong, kinds-wrong, value-wrong, values-wrong, Reading, Volume-delay, Stopped, read-stop, read-by, settings-read, write-stop, changed, written-by, settings-write}
 use Rattle.settings.specs.Rules.{Once, Setting, ListOf, TakenExactly, Known, meeting, through, older-by, older-read, OlderReads, Keeps, WriteKeeps}
 use Rattle.settings.proofs.Laws.{Whole, Rises, Front, Kinds, kind-test, above, only, placed, not-missing, there, kinds-right, volume-place, delay-place}
-use Rattle.settings.proofs.CallLaws.{Passed, passed, passes-all, values-in-front, Writes, writes}
+use Rattle.settings.proofs.CallLaws.{Passed, passed, passes-all, volume-range, delay-range, values-in-front, Writes, writes}
 
 -- ---- the lists that are taken
 
@@ -77,14 +77,6 @@ module _ (L : List ℕ) (w : Whole L) (k : Kinds L) (right : values-wrong L ≡ 
     alone = λ i h e. only L w (k .rising) 2 (omega arith) (omega (arith, k .in-front .long)) i h (e ∙ sym (k .in-front .delay));
   }
 
-  -- the range of a volume and of a delay
-  ranges : (volume L ≤ 15) × (5 ≤ delay L) × (delay L ≤ 300)
-  unfolding values-wrong value-wrong
-  ranges =
-      let v = neither _ _ right in
-      let d = neither _ _ (v .1) in
-      (ltb-false volume-limit (volume L) (v .0), ltb-false (delay L) delay-least (d .0), ltb-false delay-limit (delay L) (d .1))
-
   one-or-two : (m : ℕ) → 1 ≤ m → m ≤ 2 → (m ≡ 1) ⊎ (m ≡ 2)
   one-or-two m h l = go (ℕ-discrete m 1)
     where
@@ -96,6 +88,7 @@ module _ (L : List ℕ) (w : Whole L) (k : Kinds L) (right : values-wrong L ≡ 
   last-of v e = ap last-kind e
 
   is-list : ListOf L (volume L) (delay L)
+  unfolding values-wrong
   is-list = record {
     whole = w .words;
     there = w .some;
@@ -107,8 +100,8 @@ module _ (L : List ℕ) (w : Whole L) (k : Kinds L) (right : values-wrong L ≡ 
     version-2 = λ e i s. (k .rising .low i (s .behind-first) (s .within), omega (arith, k .rising .high i (s .behind-first) (s .within), last-of 2 e));
     at-most-once = λ i j s t e. only L w (k .rising) j (t .behind-first) (t .within) i (s .within) e;
     rise = λ i s t. above L (k .rising) i (suc i) (s .behind-first) (omega arith) (t .within);
-    volume-range = ranges .0;
-    delay-range = (ranges .1, ranges .2);
+    volume-range = volume-range (volume L) (neither (value-wrong 1 (volume L)) (value-wrong 2 (delay L)) right .0);
+    delay-range = delay-range (delay L) (neither (value-wrong 1 (volume L)) (value-wrong 2 (delay L)) right .1);
   }
 
 -- ---- and back
