@@ -22,7 +22,8 @@ use Rattle.protocol.specs.Operations.{staging-wrong, Moved, in-phase, phase-wro
 use Rattle.protocol.specs.Recovery.{is-going}
 use Rattle.protocol.proofs.Advancing.{job-passes}
 use Rattle.protocol.proofs.Sequence.{words-in-order}
-use Rattle.trace.specs.Trace.{is-cut, bench-sizes, fram-length, bench-staging, start, started, stored-on, most-stores, stores-until, Bench, operation, operated, cut-set, step, after, blank-bench}
+use Rattle.trace_words.specs.Words.{is-cut}
+use Rattle.trace.specs.Trace.{bench-sizes, fram-length, bench-staging, start, started, stored-on, most-stores, stores-until, Bench, operation, operated, cut-set, step, after, blank-bench}
 use Rattle.trace.specs.Rule.{RunsToItsEnd}
 use Rattle.trace.proofs.Stores.{left-of, left-most, advance-fewer, refused-still, stored-still, stored-more}
 

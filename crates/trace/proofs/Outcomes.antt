@@ -17,7 +17,8 @@ use Rattle.stops.specs.declared.Check.the-variants.{Stopped}
 use Rattle.stops.specs.declared.Stop.{Stop}
 use Rattle.stops.proofs.Laws.{passes, neither}
 use Rattle.ring_line.specs.Text.{refused-line}
-use Rattle.trace.specs.Trace.{ring-length, fram-length, text-length, words-of, words-wrong, trace-wrong, Run, key-refused, trace-stop, run-by, run-trace, output}
+use Rattle.trace_words.specs.Words.{words-of, words-wrong, trace-wrong}
+use Rattle.trace.specs.Trace.{ring-length, fram-length, text-length, Run, key-refused, trace-stop, run-by, run-trace, output}
 use Rattle.trace.specs.View.{Ran}
 
 module _ (key trace ring fram text : List ℕ) where

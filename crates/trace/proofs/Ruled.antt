@@ -32,7 +32,8 @@ use Rattle.protocol.proofs.Invariant.{Holds}
 use Rattle.protocol.proofs.Lists.{hold-run, hold-fresh}
 use Rattle.protocol.proofs.Runs.{run-append, allowed-append}
 use Rattle.protocol.proofs.Recovery.{recovery}
-use Rattle.trace.specs.Trace.{is-cut, bench-pages, bench-slots, ring-length, fram-length, bench-half, bench-staging, nonce-of, arguments, saving, zero-tag, powering-up, save-with, start, start-progress, started, stores-until, Bench, operation, session-from, session-after, operated, cut-set, step, after, line-after, printed, lines, blank-bench, key-refused}
+use Rattle.trace_words.specs.Words.{is-cut}
+use Rattle.trace.specs.Trace.{bench-pages, bench-slots, ring-length, fram-length, bench-half, bench-staging, nonce-of, arguments, saving, zero-tag, powering-up, save-with, start, start-progress, started, stores-until, Bench, operation, session-from, session-after, operated, cut-set, step, after, line-after, printed, lines, blank-bench, key-refused}
 use Rattle.trace.specs.Rule.{bench-setup, given, call, advances-while, loss-if, operation-events, events-of, call-answer, call-line, list-lines, nonces, AllDiffer, blank-state, trace-events, state-after, Ruled, TraceRecovery}
 use Rattle.ring_line.specs.Text.{ring-text}
 use Rattle.trace.proofs.Stores.{left, left-of, stored-still}

@@ -20,7 +20,8 @@ use Rattle.ring_line.specs.Line.{line-limit, Short}
 use Rattle.jobs.specs.View.{view-job, view-session, view-start, view-progress, view-advanced}
 use Rattle.jobs.specs.declared.types.Started.{Started}
 use Rattle.jobs.specs.declared.types.Advanced.{Advanced}
-use Rattle.trace.specs.Trace.{is-cut, bench-sizes, bench-staging, start, start-progress, started, stored-on, stores-until, Bench, operation, session-from, session-after, operated, cut-set, step, line-after, printed}
+use Rattle.trace_words.specs.Words.{is-cut}
+use Rattle.trace.specs.Trace.{bench-sizes, bench-staging, start, start-progress, started, stored-on, stores-until, Bench, operation, session-from, session-after, operated, cut-set, step, line-after, printed}
 use Rattle.trace.specs.declared.unit.Unit.{Unit}
 use Rattle.trace.specs.View.{view-held, view-cut, view-unit, Starts, Stepped}
 use Rattle.trace.proofs.Stores.{stored-more}

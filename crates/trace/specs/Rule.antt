@@ -14,7 +14,8 @@ use Rattle.protocol.specs.History as history
 use Rattle.protocol.specs.History.{State, Handed, fresh, is-stopped, refused, run, Allowed}
 use Rattle.protocol.specs.Recovery.{is-going, with-handed, Exactly, Seen, Last, Outcome}
 use Rattle.ring_line.specs.Text.{refused-line, ring-text}
-use Rattle.trace.specs.Trace.{is-cut, bench-pages, bench-slots, bench-sizes, bench-staging, nonce-of, saving, zero-tag, powering-up, start, stores-until, Bench, operation, step, after, lines, blank-bench, key-refused}
+use Rattle.trace_words.specs.Words.{is-cut}
+use Rattle.trace.specs.Trace.{bench-pages, bench-slots, bench-sizes, bench-staging, nonce-of, saving, zero-tag, powering-up, start, stores-until, Bench, operation, step, after, lines, blank-bench, key-refused}
 
 abbrev pub bench-setup : (key : List ℕ) → Setup
 bench-setup key = record { sizes = bench-sizes; key = key }

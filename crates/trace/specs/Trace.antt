@@ -1,14 +1,14 @@
 -- A recorded bench trace (document 02, A.4): which traces are run, what each of their words does to the bench's unit, and which lines are printed.
 -- `key` is the unit's, the same throughout a trace. Document 02 has it zero: that is what the program gives.
-use Prim.Native.Nat.{ℕ, zero, suc, _+_, _*_, _/_, _%_}
-use mathlib.Core.Bool.{Bool, false, not, cond, _&&_, _||_}
+use Prim.Native.Nat.{ℕ, zero, suc, _+_, _*_, _/_}
+use mathlib.Core.Bool.{Bool, not, cond}
 use mathlib.Core.Option.{Option, none, some}
 use mathlib.Core.List.{List, [], _∷_, _++_}
 use lib.ListN.{length, replicate}
 use lib.Dec.{eqb, ltb}
 use Rattle.octets.specs.Limits.{slot-length, part-limit, key-lengths, nonce-length, tag-length, trace-limit}
 use Rattle.octets.specs.Octets.{put, blank, erased, bytes}
-use Rattle.octets.specs.Word.{word-at, kind4, value28}
+use Rattle.octets.specs.Word.{kind4, value28}
 use Rattle.stops.specs.Stops.{first-of}
 use Rattle.protocol.specs.Types.{Session, Progress, GoingOn, Saved, Restored, Refused, Start, Begun, Stopped, this-firmware}
 use Rattle.protocol.specs.Calls.{Sizes, sizes, From, from-tag, from-session, SaveArguments, Saves, saves, PowersUp}
@@ -16,38 +16,7 @@ use Rattle.protocol.specs.Operations.{key-wrong, Begin, Moved, no-job, no-sessi
 use Rattle.protocol.specs.Recovery.{is-going}
 use Rattle.ring_line.specs.Text.{refused-line, ring-text}
 use Rattle.ring_line.specs.Line.{line-limit}
-
--- ---- the words
-
--- kinds: 1 first save, 2 save, 3 power-up, 4 cut
-abbrev pub is-cut : ℕ → Bool
-is-cut w = eqb (kind4 w) 4
-
-abbrev pub is-operation : ℕ → Bool
-is-operation w = ltb 0 (kind4 w) && ltb (kind4 w) 4
-
--- n words, from word k on
-unfoldable pub words-from : List ℕ → ℕ → ℕ → List ℕ
-words-from trace k zero = []
-words-from trace k (suc n) = word-at trace (4 * k) ∷ words-from trace (suc k) n
-
-unfoldable pub words-of : List ℕ → List ℕ
-words-of trace = words-from trace 0 (length trace / 4)
-
--- ---- stop 20
-
--- a cut follows a cut, or a word is neither a cut nor an operation
-unfoldable pub word-wrong : (after-cut : Bool) → ℕ → Bool
-word-wrong after-cut w = cond (is-cut w) after-cut (not (is-operation w))
-
--- one of the words is so, or the last is a cut
-unfoldable pub words-wrong : (after-cut : Bool) → List ℕ → Bool
-words-wrong after-cut [] = after-cut
-words-wrong after-cut (w ∷ more) = word-wrong after-cut w || words-wrong (is-cut w) more
-
--- a word is broken, there are too many, or the words are wrong
-unfoldable pub trace-wrong : List ℕ → Bool
-trace-wrong trace = not (eqb (length trace % 4) 0) || ltb (4 * trace-limit) (length trace) || words-wrong false (words-of trace)
+use Rattle.trace_words.specs.Words.{is-cut, words-of, trace-wrong}
 
 -- ---- the bench's unit
 

@@ -2,7 +2,6 @@
 mod run;
 mod starts;
 mod unit;
-mod words;
 
 pub use run::Traced;
 pub use run::run_trace;

@@ -3,18 +3,19 @@ use crate::FRAM_LENGTH;
 use crate::RING_LENGTH;
 use crate::TEXT_LENGTH;
 use crate::unit::new_unit;
-use crate::words::trace_wrong;
 use gcm::key_wrong;
 use octets::fill;
 use octets::word_at;
 use stops::Check;
 use stops::Stop;
+use trace_words::trace_wrong;
 ghost use mathlib.Core.Path.{_≡_};
 ghost use Prim.Native.Nat.{_*_, _≤_};
 ghost use lib.ListN.{length};
 ghost use Rattle.octets.specs.Limits.{trace-limit};
 ghost use Rattle.stops.specs.View.{check-number};
-ghost use Rattle.trace.specs.Trace.{ring-length, fram-length, text-length, words-of, trace-stop, run-trace};
+ghost use Rattle.trace.specs.Trace.{ring-length, fram-length, text-length, trace-stop, run-trace};
+ghost use Rattle.trace_words.specs.Words.{words-of};
 ghost use Rattle.trace.specs.View.{view-traced, Ran};
 
 // What running a trace answers: the length of the lines, or why it was not run, and then 0.

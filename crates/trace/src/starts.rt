@@ -2,8 +2,6 @@
 use crate::PAGES;
 use crate::SLOTS;
 use crate::unit::Held;
-use crate::words::FIRST_SAVE;
-use crate::words::SAVE;
 use keeper::From;
 use keeper::Start;
 use keeper::Started;
@@ -19,6 +17,8 @@ use octets::limits::TAG_LENGTH;
 use octets::value28;
 use octets::word_bytes;
 use stops::Stop;
+use trace_words::FIRST_SAVE;
+use trace_words::SAVE;
 ghost use mathlib.Core.Path.{_≡_};
 ghost use mathlib.Core.Bool.{cond};
 ghost use Rattle.octets.specs.Octets.{blank};

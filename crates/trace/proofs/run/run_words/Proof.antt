@@ -4,7 +4,8 @@ use mathlib.Core.Path.{_≡_, refl, _∙_}
 use native.Mathlib.Omega.{arith}
 use lib.ListN.{length}
 use borrow.Author.Needs.{needs}
-use Rattle.trace.specs.Trace.{ring-length, fram-length, words-from, words-of}
+use Rattle.trace_words.specs.Words.{words-from, words-of}
+use Rattle.trace.specs.Trace.{ring-length, fram-length}
 use Rattle.trace.specs.View.{view-unit}
 use Rattle.trace.proofs.Laws.{Sofar, nothing-done, one-more, all-done}
 use Rattle.trace.proofs.run.run_words.Statement.{statement}

@@ -6,7 +6,8 @@ use lib.Dec.{eqb, ltb}
 use lib.ListN.{length}
 use borrow.Author.Needs.{needs}
 use Rattle.stops.proofs.Laws.{no-lines, one-more}
-use Rattle.trace.specs.Trace.{ring-length, fram-length, text-length, trace-wrong, key-refused, trace-stop}
+use Rattle.trace_words.specs.Words.{trace-wrong}
+use Rattle.trace.specs.Trace.{ring-length, fram-length, text-length, key-refused, trace-stop}
 use Rattle.trace.proofs.run.trace_check.Statement.{statement}
 use Rattle.trace.proofs.run.trace_check.Tie as tie
 

@@ -1,10 +1,10 @@
-// The words of a trace, and which traces are run.
+// The words of a recorded bench trace, and which traces are run (document 02, A.4).
 use octets::kind4;
 use octets::limits::TRACE_LIMIT;
 use octets::word_at;
 ghost use mathlib.Core.Path.{_≡_};
 ghost use mathlib.Core.Bool.{false};
-ghost use Rattle.trace.specs.Trace.{is-cut, word-wrong, words-wrong, words-of, trace-wrong};
+ghost use Rattle.trace_words.specs.Words.{is-cut, word-wrong, words-wrong, words-of, trace-wrong};
 
 // What a word is, by its kind.
 pub const FIRST_SAVE: u32 = 1;
@@ -13,7 +13,7 @@ pub const SAVE: u32 = 2;
 
 pub const CUT: u32 = 4;
 
-pub(crate) fn is_cut(w: u32) -> bool
+pub fn is_cut(w: u32) -> bool
     ensures { λ r. ⌜ r ≡ is-cut w ⌝ }
 {
     kind4(w) == CUT
@@ -46,7 +46,7 @@ fn words_wrong(trace: &[u8]) -> bool
 }
 
 // Stop 20.
-pub(crate) fn trace_wrong(trace: &[u8]) -> bool
+pub fn trace_wrong(trace: &[u8]) -> bool
     ensures { λ r. ⌜ r ≡ trace-wrong (now (trace .entry)) ⌝ }
 {
     let n = trace.len();

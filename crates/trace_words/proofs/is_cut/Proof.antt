@@ -1,10 +1,10 @@
--- `trace::words::is_cut` meets its contract. Assumes nothing.
+-- `trace_words::is_cut` meets its contract. Assumes nothing.
 use Prim.Native.Nat.{ℕ}
 use mathlib.Core.Path.{ap}
 use lib.Dec.{eqb}
 use borrow.Author.Needs.{needs}
-use Rattle.trace.proofs.words.is_cut.Statement.{statement}
-use Rattle.trace.proofs.words.is_cut.Tie as tie
+use Rattle.trace_words.proofs.is_cut.Statement.{statement}
+use Rattle.trace_words.proofs.is_cut.Tie as tie
 
 returns : tie.Need-returns
 returns c = ap (λ (k : ℕ). eqb k 4) (c .kind4 .ensures .0)

@@ -1,12 +1,12 @@
--- `trace::words::word_wrong` meets its contract: a cut and an operation are the definition's two cases. Assumes nothing.
+-- `trace_words::word_wrong` meets its contract: a cut and an operation are the definition's two cases. Assumes nothing.
 use Prim.Native.Nat.{ℕ}
 use mathlib.Core.Path.{sym, ap, _∙_}
 use mathlib.Core.Bool.{not, _&&_}
 use lib.Dec.{ltb}
 use borrow.Author.Needs.{needs}
-use Rattle.trace.proofs.Laws.{cut-wrong, operation-wrong}
-use Rattle.trace.proofs.words.word_wrong.Statement.{statement}
-use Rattle.trace.proofs.words.word_wrong.Tie as tie
+use Rattle.trace_words.proofs.Laws.{cut-wrong, operation-wrong}
+use Rattle.trace_words.proofs.word_wrong.Statement.{statement}
+use Rattle.trace_words.proofs.word_wrong.Tie as tie
 
 returns : tie.Need-returns
 returns c = cut-wrong _ (c .before .before .args .w) (sym (c .before .is-cut .ensures) ∙ c .if1 .taken)

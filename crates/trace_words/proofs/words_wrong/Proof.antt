@@ -1,14 +1,14 @@
--- `trace::words::words_wrong` meets its contract: the words that are left, behind a cut or not, are wrong where the trace's are. Assumes nothing.
+-- `trace_words::words_wrong` meets its contract: the words that are left, behind a cut or not, are wrong where the trace's are. Assumes nothing.
 use Prim.Native.Nat.{_-_, _/_}
 use mathlib.Core.Path.{_≡_, refl, sym, ap, _∙_}
 use mathlib.Core.Bool.{false}
 use native.Mathlib.Omega.{arith}
 use lib.ListN.{length}
 use borrow.Author.Needs.{needs}
-use Rattle.trace.specs.Trace.{words-from, words-of, words-wrong}
-use Rattle.trace.proofs.Laws.{word-found-wrong, word-found-right, all-words, words-end}
-use Rattle.trace.proofs.words.words_wrong.Statement.{statement}
-use Rattle.trace.proofs.words.words_wrong.Tie as tie
+use Rattle.trace_words.specs.Words.{words-from, words-of, words-wrong}
+use Rattle.trace_words.proofs.Laws.{word-found-wrong, word-found-right, all-words, words-end}
+use Rattle.trace_words.proofs.words_wrong.Statement.{statement}
+use Rattle.trace_words.proofs.words_wrong.Tie as tie
 
 abbrev Inv-loop : tie.InvT-loop
 Inv-loop trace after-cut₀ k₀ k-end after-cut k =

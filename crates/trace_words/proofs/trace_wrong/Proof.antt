@@ -1,13 +1,13 @@
--- `trace::words::trace_wrong` meets its contract. Assumes nothing.
+-- `trace_words::trace_wrong` meets its contract. Assumes nothing.
 use Prim.Native.Nat.{_%_}
 use mathlib.Core.Path.{ap}
 use mathlib.Core.Bool.{Bool, not, _||_}
 use lib.Dec.{eqb, ltb}
 use lib.ListN.{length}
 use borrow.Author.Needs.{needs}
-use Rattle.trace.specs.Trace.{trace-wrong}
-use Rattle.trace.proofs.words.trace_wrong.Statement.{statement}
-use Rattle.trace.proofs.words.trace_wrong.Tie as tie
+use Rattle.trace_words.specs.Words.{trace-wrong}
+use Rattle.trace_words.proofs.trace_wrong.Statement.{statement}
+use Rattle.trace_words.proofs.trace_wrong.Tie as tie
 
 returns : tie.Need-returns
 unfolding trace-wrong

@@ -1,0 +1,2 @@
+-- The words of a bench trace.
+pub mod Words
