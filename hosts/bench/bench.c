@@ -1,6 +1,6 @@
 /*
  * Times the keeper's calls, its sealing and opening beside BearSSL, mbedTLS and OpenSSL, its Intel HEX beside binutils and SRecord,
- * and its chains of dumps beside the same in C; measures the stack that its calls use; and writes docs/PERFORMANCE.md. hosts/bench/run.sh
+ * and its chains of dumps and lists of settings beside the same in C; measures the stack that its calls use; and writes docs/PERFORMANCE.md. hosts/bench/run.sh
  * builds and runs it:
  * bench PAGE FACTS SIZES SYMBOLS PROGRAMS FOLDER
  */
@@ -714,14 +714,14 @@ static void fill_entries(int chain, size_t count)
 
 static struct times chain_times[CHAINS][COUNT(entry_counts)][COUNT(sorters)];
 
-static double chain_time(uint32_t (*call)(void), uint32_t expected, unsigned calls)
+static double answer_time(uint32_t (*call)(void), uint32_t expected, unsigned calls)
 {
     int good = 1;
     double start = now();
     for (unsigned i = 0; i < calls; i++)
         good &= call() == expected;
     double time = (now() - start) / calls;
-    need(good, "another answer to a chain");
+    need(good, "another answer");
     return time;
 }
 
@@ -738,12 +738,133 @@ static void time_chains(int round)
                     need(places[k] == entry_count - 1 - k, sorters[s].name);
                 for (int tries = 0; tries < TRIES; tries++) {
                     preempted();
-                    double once = chain_time(sorters[s].call, expected, 3);
-                    chain_times[chain][n][s].of[round] = chain_time(sorters[s].call, expected, 1 + 1e6 / once);
+                    double once = answer_time(sorters[s].call, expected, 3);
+                    chain_times[chain][n][s].of[round] = answer_time(sorters[s].call, expected, 1 + 1e6 / once);
                     if (!preempted())
                         break;
                 }
             }
+}
+
+/* ---- settings */
+
+static uint8_t list[4 * 15];
+static size_t list_len;
+static uint32_t read_volume, read_delay;
+
+static uint32_t word_in(size_t i)
+{
+    const uint8_t *w = list + 4 * i;
+    return (uint32_t)w[0] << 24 | (uint32_t)w[1] << 16 | (uint32_t)w[2] << 8 | w[3];
+}
+
+/* As an engineer would write it in C: one pass over the words. */
+static uint32_t plain_settings_read(void)
+{
+    uint32_t first, volume, delay, before = 0;
+    size_t n = list_len / 4;
+    if (list_len % 4 != 0 || n == 0)
+        return KEEPER_BAD_LIST;
+    first = word_in(0);
+    if (first != 0xF0000001 && first != 0xF0000002)
+        return KEEPER_BAD_LIST;
+    if (n < 3 || word_in(1) >> 28 != KEEPER_VOLUME || word_in(2) >> 28 != KEEPER_ALERT_DELAY)
+        return KEEPER_BAD_KINDS;
+    for (size_t i = 1; i < n; i++) {
+        uint32_t kind = word_in(i) >> 28;
+        if (kind <= before || kind > (first == 0xF0000001 ? 2 : 14))
+            return KEEPER_BAD_KINDS;
+        before = kind;
+    }
+    volume = word_in(1) & 0xFFFFFFF;
+    delay = word_in(2) & 0xFFFFFFF;
+    if (volume > 15 || delay < 5 || delay > 300)
+        return KEEPER_BAD_VALUE;
+    read_volume = volume;
+    read_delay = delay;
+    return 0;
+}
+
+/* Writes the last setting. */
+static uint32_t last_kind(void)
+{
+    return word_in(list_len / 4 - 1) >> 28;
+}
+
+static uint32_t plain_settings_write(void)
+{
+    uint32_t kind = last_kind(), value = 77, stop = plain_settings_read();
+    size_t i;
+    if (stop == KEEPER_BAD_LIST || stop == KEEPER_BAD_KINDS)
+        return stop;
+    for (i = 1; i < list_len / 4 && word_in(i) >> 28 != kind; i++)
+        ;
+    if (i == list_len / 4)
+        return KEEPER_BAD_KINDS;
+    if (stop != 0 || (kind == KEEPER_VOLUME ? value > 15 : kind == KEEPER_ALERT_DELAY ? value < 5 || value > 300 : value > 0xFFFFFFF))
+        return KEEPER_BAD_VALUE;
+    uint8_t *w = list + 4 * i;
+    w[0] = kind << 4 | value >> 24;
+    w[1] = value >> 16;
+    w[2] = value >> 8;
+    w[3] = value;
+    return 0;
+}
+
+static uint32_t settings_read(void)
+{
+    return keeper_settings_read(list, list_len, &read_volume, &read_delay);
+}
+
+static uint32_t settings_write(void)
+{
+    return keeper_settings_write(list, list_len, last_kind(), 77);
+}
+
+static const struct {
+    const char *name;
+    uint32_t (*call)(void);
+} setters[] = {{"Godwitshelf, read", settings_read},
+               {"one pass in C, read", plain_settings_read},
+               {"Godwitshelf, write to the last setting", settings_write},
+               {"one pass and a search in C, write to it", plain_settings_write}};
+
+static const size_t list_words[] = {3, 6, 15};
+static struct times setting_times[COUNT(list_words)][COUNT(setters)];
+
+/* A list of so many words: of version 1 if it has three. */
+static void fill_list(size_t words)
+{
+    memset(list, 0, sizeof list);
+    for (size_t i = 1; i < words; i++)
+        list[4 * i] = i << 4;
+    list[0] = KEEPER_LIST_VERSION << 4;
+    list[3] = words == 3 ? 1 : 2;
+    list[7] = 3;
+    list[11] = 30;
+    list_len = 4 * words;
+}
+
+static void time_settings(int round)
+{
+    for (size_t n = 0; n < COUNT(list_words); n++)
+        for (size_t s = 0; s < COUNT(setters); s++) {
+            uint8_t left[sizeof list];
+            fill_list(list_words[n]);
+            read_volume = read_delay = 0;
+            need(setters[s & ~(size_t)1].call() == 0, "a list was refused");
+            memcpy(left, list, sizeof list);
+            need(s > 1 || (read_volume == 3 && read_delay == 30), "another volume or delay");
+            fill_list(list_words[n]);
+            need(setters[s].call() == 0 && memcmp(left, list, sizeof list) == 0, "another list");
+            for (int tries = 0; tries < TRIES; tries++) {
+                preempted();
+                double once = answer_time(setters[s].call, 0, 3);
+                setting_times[n][s].of[round] = answer_time(setters[s].call, 0, 1 + 1e6 / once);
+                if (!preempted())
+                    break;
+            }
+        }
 }
 
 /* ---- the stack: each call runs on one of its own, which is painted first */
@@ -832,6 +953,8 @@ static struct {
     {"keeper_power_up", power_up, 0},
     {"keeper_advance", advance, 0},
     {"keeper_look", look, 0},
+    {"keeper_settings_read", settings_read, 0},
+    {"keeper_settings_write", settings_write, 0},
     {"keeper_hex_export", export_largest, 0},
     {"keeper_hex_import", import_largest, 0},
     {"keeper_ring_shape", make_rings, 0},
@@ -872,6 +995,8 @@ static void measure_stack(int cipher)
     need(measured(make_rings) == 0, "a ring was refused");
     fill_entries(BACKWARDS, KEEPER_ENTRIES_LIMIT);
     need(measured(chain_order) == 0, "a chain was refused");
+    fill_list(15);
+    need(measured(settings_read) == 0 && measured(settings_write) == 0, "a list was refused");
     measure_job(save, KEEPER_SAVED);
     restore();
     need(save() == 0, "a save stopped");
@@ -1035,12 +1160,32 @@ static void print_chains(void)
         }
 }
 
+static void print_settings(void)
+{
+    out("\n## Settings\n\n"
+        "Nanoseconds, best · median · **ratio of the best to ours**. Turns as for sealing; in each round, before the clock starts, both must leave\n"
+        "the same list. The list of three words is of version 1, the others are of version 2.\n\n"
+        "| words |");
+    for (size_t n = 0; n < COUNT(list_words); n++)
+        out(" %zu |", list_words[n]);
+    out("\n");
+    columns(1, COUNT(list_words));
+    for (size_t s = 0; s < COUNT(setters); s++) {
+        out("| %s |", setters[s].name);
+        for (size_t n = 0; n < COUNT(list_words); n++) {
+            const struct times *t = setting_times[n];
+            out(" %.1f · %.1f · **%.2f** |", best(&t[s]), median(&t[s]), best(&t[s]) / best(&t[s & ~(size_t)1]));
+        }
+        out("\n");
+    }
+}
+
 static void print_depths(void)
 {
     out("\n## Stack\n\n"
         "Bytes that a call writes below its caller's frame, arguments and callees included, at parts of 32,768 bytes and in every phase of a\n"
-        "job, with a key of either length, whichever goes deeper, with an image of 262,144, at every ring of 4 pages by 4 slots, or with\n"
-        "64 entries. Measured on a painted stack, not proved.\n\n"
+        "job, with a key of either length, whichever goes deeper, with an image of 262,144, at every ring of 4 pages by 4 slots, with\n"
+        "64 entries, or with a list of 15 words. Measured on a painted stack, not proved.\n\n"
         "| call | bytes |\n");
     columns(1, 1);
     for (size_t i = 0; i < COUNT(depths); i++)
@@ -1168,6 +1313,7 @@ int main(int argc, char **argv)
         time_calls(round);
         time_hex(round);
         time_chains(round);
+        time_settings(round);
     }
     getloadavg(&load[1], 1);
 
@@ -1205,6 +1351,7 @@ int main(int argc, char **argv)
     print_calls();
     print_hex();
     print_chains();
+    print_settings();
     print_depths();
     print_sizes();
     need(fclose(page) == 0, argv[1]);

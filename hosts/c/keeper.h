@@ -47,7 +47,8 @@
  *
  * Not proved: time (the costs below are those of the source), and what is left on the stack. Run under memcheck (hosts/constant_time), the
  * calls make no jump and use no address that depends on key, tags, parts or sealed text, but for AES's look-ups in its tables and one jump on
- * whether a tag is right. keeper_chain_order is not meant for secrets: it goes by the tags in its entries, which the FRAM shows to anyone.
+ * whether a tag is right. keeper_chain_order and the two calls on settings are not meant for secrets: they go by the tags in their entries and
+ * by the words of a list, which the FRAM shows to anyone.
  */
 #ifndef KEEPER_H
 #define KEEPER_H
@@ -91,10 +92,9 @@ enum keeper_answer {
     KEEPER_BAD_ENTRIES = 21,        /* chain order: no entries, more than KEEPER_ENTRIES_LIMIT, or a broken one; tried before 4 */
     KEEPER_NO_ORDER = 22,           /* chain order: the entries have none */
     KEEPER_BAD_LIST = 23,           /* settings: the list is not whole words, or its first word is absent or not kind 15 with value 1 or 2 */
-    KEEPER_BAD_KINDS = 24,          /* settings: a kind is missing, not the version's or not above the one before; write: kind 15, or one that is
-                                       not in the list */
-    KEEPER_BAD_VALUE = 25,          /* settings: a volume above 15 or a delay not of 5 to 300 seconds in the list; write: the new value out of
-                                       the kind's range */
+    KEEPER_BAD_KINDS = 24,          /* settings: kind 1 or 2 is missing, or a kind is not the version's or does not rise; write: kind 15, or one
+                                       that is not in the list */
+    KEEPER_BAD_VALUE = 25,          /* settings: a volume above 15 or a delay not of 5 to 300 seconds; write: the new value so, or above 2^28 - 1 */
     KEEPER_PAST_LAST_SHAPE = 26,    /* ring shape: the number is past the last of that size */
 
     KEEPER_GOING_ON = 256,          /* keeper_advance: more stores to come */
@@ -119,7 +119,7 @@ enum keeper_size {
 enum keeper_kind {
     KEEPER_VOLUME = 1,              /* 0 to 15 */
     KEEPER_ALERT_DELAY = 2,         /* 5 to 300 seconds */
-    KEEPER_VERSION = 15             /* the first word's: 1 or 2 */
+    KEEPER_LIST_VERSION = 15             /* the first word's: 1 or 2 */
 };
 
 /* The largest packet number: 2^30 - 1. */
@@ -249,8 +249,8 @@ uint32_t keeper_factory_check(size_t pages, size_t slots, const uint8_t *ring, s
 
 /* Settings in the open part. A list is the whole part: words of 4 bytes, the most significant first, each with its kind in the top four bits
  * and its value in the other 28. The first word has kind 15 and the list's version, 1 or 2. Then kinds rise: 1, the volume, 0 to 15; 2, the
- * alert delay, 5 to 300 seconds; in version 2 also any of 3 to 14, with any value. Read writes volume and delay of a list of either version.
- * Write changes the value of one setting where it stands, and no other word; a list that is written so is still read. keeper_look finds the
+ * alert delay, 5 to 300 seconds; in version 2 also any of 3 to 14, with any value. keeper_settings_read hands out volume and delay of a list
+ * of either version. keeper_settings_write changes the value of one setting where it stands, and no other word; the list can still be read. keeper_look finds the
  * list of the newest checkpoint; copy it out of the FRAM image, write to the copy, and save that.
  * A setting that is not in the list cannot be written, and a list with a stop is not mended by a write.
  * Stops: 23, 24, 25. Cost: one pass over the list, write two.

@@ -47,7 +47,7 @@ static size_t look_up(const char *when, uint8_t *list, size_t room)
     return len;
 }
 
-/* The writer's answer, which changes nothing. */
+/* A write that is refused: its answer, and whether the list changed. */
 static void refused(const char *what, const uint8_t *list, size_t len, uint32_t kind, uint32_t value)
 {
     uint8_t copy[4 * WORDS];
@@ -59,7 +59,7 @@ static void refused(const char *what, const uint8_t *list, size_t len, uint32_t 
 int main(void)
 {
     static const uint8_t starting_tag[KEEPER_TAG_SIZE] = {9};
-    uint8_t list[4 * WORDS] = {KEEPER_VERSION << 4, 0, 0, 2, KEEPER_VOLUME << 4, 0, 0, 3, KEEPER_ALERT_DELAY << 4, 0, 0, 30,
+    uint8_t list[4 * WORDS] = {KEEPER_LIST_VERSION << 4, 0, 0, 2, KEEPER_VOLUME << 4, 0, 0, 3, KEEPER_ALERT_DELAY << 4, 0, 0, 30,
                                UNKNOWN_KIND << 4, 0, 0x12, 0x67};
     size_t len = sizeof list;
     memset(ring, 0xFF, sizeof ring);
@@ -86,10 +86,12 @@ int main(void)
     if (save(session, sizeof session, 4, list, len) != KEEPER_DONE || store(100) != KEEPER_SAVED)
         return 1;
     len = look_up("saved again", list, sizeof list);
+    if (len == 0)
+        return 1;
 
     refused("a delay of 301 s", list, len, KEEPER_ALERT_DELAY, 301);
     refused("a volume of 16", list, len, KEEPER_VOLUME, 16);
-    refused("another version", list, len, KEEPER_VERSION, 1);
+    refused("another version", list, len, KEEPER_LIST_VERSION, 1);
     refused("a kind that is not there", list, len, 3, 0);
     refused("a value of 29 bits", list, len, UNKNOWN_KIND, UINT32_C(1) << 28);
     refused("a broken word", list, len - 1, KEEPER_VOLUME, 1);

@@ -4,7 +4,7 @@ use Prim.Native.Nat.{ℕ}
 use lib.ListN.{length, length-replicate}
 use Rattle.octets.specs.Octets.{part, put, same, blank, number, bytes}
 use Rattle.octets.specs.Search.{first-below}
-use Rattle.octets.specs.Word.{word-at, kind-of, value-of, word}
+use Rattle.octets.specs.Word.{word-at, kind-of, value-of, word, top-word}
 use Rattle.sbox.specs.Field.{xtime, times, power, inverse, affine, turned, sub-byte, _•_}
 use Rattle.ring.specs.Ring.{ring-wrong, slot-at, page-at, newest-record, nonce-in, nonce-used, not-newest, is-record, half-named, next-page, used-from, records, filled, alone, followed, reading, read-ring, target-page, target-slot, page-before, record-put}
 use Rattle.ring_shapes.specs.Shapes.{from-slot, from-page, shapes, with-records, ring-of, ring-number, size-wrong, past-last, shape-stop}
@@ -65,11 +65,11 @@ unfolding chain-stop entries-wrong too-short first-of
 many-entries-agree = rw (zeros-long 2048, zeros-long 2049, zeros-long 2080)
 
 lists-read-agree : Agree lists-read
-unfolding read-stop list-stop list-wrong kinds-wrong kind-wrong values-wrong value-wrong settings.place first-below word-at number bytes first-of
+unfolding read-stop list-stop list-wrong kinds-wrong kind-wrong values-wrong value-wrong settings.place first-below word-at number top-word bytes first-of
 lists-read-agree = refl
 
 lists-written-agree : Agree lists-written
-unfolding settings-write written-by write-stop changed list-stop list-wrong kinds-wrong kind-wrong values-wrong value-wrong settings.place first-below word-at number bytes put first-of
+unfolding settings-write written-by write-stop changed list-stop list-wrong kinds-wrong kind-wrong values-wrong value-wrong settings.place first-below word-at number top-word bytes put first-of
 lists-written-agree = refl
 
 pub values : Values

@@ -1,14 +1,15 @@
 -- Document 01's bench values M1 to M13 (its section "Bench values"), as lists: what the definitions give, beside what document 01 says;
 -- M13 for both forms of a head, document 01's and document 02's (A.2); the bounds of A.2 and A.5, the order of A.6, the one save of A.7, the
 -- key lengths of A.8, the rings of A.9, what A.10 refuses, chains of A.11, and lists of settings of A.12.
-use Prim.Native.Nat.{ℕ, _+_, _*_, _/_, _^_}
+use Prim.Native.Nat.{ℕ, _/_}
 use mathlib.Core.Path.{_≡_}
 use mathlib.Core.Bool.{Bool, true, false, not}
 use mathlib.Core.Option.{Option, none, some}
 use mathlib.Core.List.{List, [], _∷_, _++_, map}
 use lib.ListN.{length, replicate}
 use Rattle.octets.specs.Limits.{slot-length, long-key, nonce-length, tag-length}
-use Rattle.octets.specs.Octets.{erased, bytes}
+use Rattle.octets.specs.Octets.{erased}
+use Rattle.octets.specs.Word.{top-word}
 use Rattle.sbox.specs.Field.{xtime, sub-byte}
 use Rattle.ring.specs.Ring.{Newest, Blank, Unreadable, At, AtPending, is-record, half-named, read-ring, target-page, target-slot}
 use Rattle.ring_shapes.specs.Shapes.{R, ring-number, shape-stop}
@@ -452,71 +453,69 @@ many-entries =
 
 -- ---- the lists of settings of document 02, A.12
 
--- a word of a kind and a value
-abbrev word : (kind value : ℕ) → List ℕ
-word kind value = bytes 4 (kind * 2 ^ 28 + value)
-
 -- volume 3 and a delay of 30 seconds, in either version
 abbrev older-list : List ℕ
-older-list = word 15 1 ++ word 1 3 ++ word 2 30
+older-list = top-word 15 1 ++ top-word 1 3 ++ top-word 2 30
 
 abbrev newer-list : List ℕ
-newer-list = word 15 2 ++ word 1 3 ++ word 2 30 ++ word 7 4711 ++ word 14 0
+newer-list = top-word 15 2 ++ top-word 1 3 ++ top-word 2 30 ++ top-word 7 4711 ++ top-word 14 0
 
-abbrev reading : List ℕ → Value
-reading L = stops (read-stop L)
+abbrev read-stops : List ℕ → Value
+read-stops L = stops (read-stop L)
 
 abbrev says : List ℕ → Value
 says L = holds (volume L ∷ delay L ∷ [])
 
-abbrev writing : List ℕ → (kind value : ℕ) → Value
-writing L k v = stops (settings-write L k v .stop)
+abbrev write-stops : List ℕ → (kind value : ℕ) → Value
+write-stops L k v = stops (settings-write L k v .stop)
 
 abbrev writes : List ℕ → (kind value : ℕ) → Value
 writes L k v = holds (settings-write L k v .list)
 
 abbrev pub lists-read : List (Value × Value)
 lists-read =
-    (reading older-list, stops none) ∷
+    (read-stops older-list, stops none) ∷
     (says older-list, holds (3 ∷ 30 ∷ [])) ∷
-    (reading newer-list, stops none) ∷
+    (read-stops newer-list, stops none) ∷
     (says newer-list, holds (3 ∷ 30 ∷ [])) ∷
-    (reading [], stops (some 23)) ∷
-    (reading (older-list ++ 0 ∷ []), stops (some 23)) ∷
-    (reading (word 15 0 ++ word 1 3 ++ word 2 30), stops (some 23)) ∷
-    (reading (word 15 3 ++ word 1 3 ++ word 2 30), stops (some 23)) ∷
-    (reading (word 14 1 ++ word 1 3 ++ word 2 30), stops (some 23)) ∷
-    (reading (word 15 1), stops (some 24)) ∷
-    (reading (word 15 1 ++ word 1 3), stops (some 24)) ∷
-    (reading (word 15 1 ++ word 2 30), stops (some 24)) ∷
-    (reading (word 15 1 ++ word 2 30 ++ word 1 3), stops (some 24)) ∷
-    (reading (older-list ++ word 3 0), stops (some 24)) ∷
-    (reading (word 15 2 ++ word 0 0 ++ word 1 3 ++ word 2 30), stops (some 24)) ∷
-    (reading (newer-list ++ word 14 0), stops (some 24)) ∷
-    (reading (newer-list ++ word 15 2), stops (some 24)) ∷
-    (reading (word 15 1 ++ word 2 301 ++ word 1 16), stops (some 24)) ∷
-    (reading (word 15 1 ++ word 1 15 ++ word 2 300), stops none) ∷
-    (reading (word 15 1 ++ word 1 16 ++ word 2 300), stops (some 25)) ∷
-    (reading (word 15 1 ++ word 1 0 ++ word 2 4), stops (some 25)) ∷
-    (reading (word 15 1 ++ word 1 0 ++ word 2 5), stops none) ∷
-    (reading (word 15 1 ++ word 1 0 ++ word 2 301), stops (some 25)) ∷ []
+    (read-stops [], stops (some 23)) ∷
+    (read-stops (older-list ++ 0 ∷ []), stops (some 23)) ∷
+    (read-stops (top-word 15 0 ++ top-word 1 3 ++ top-word 2 30), stops (some 23)) ∷
+    (read-stops (top-word 15 3 ++ top-word 1 3 ++ top-word 2 30), stops (some 23)) ∷
+    (read-stops (top-word 14 1 ++ top-word 1 3 ++ top-word 2 30), stops (some 23)) ∷
+    (read-stops (top-word 15 1), stops (some 24)) ∷
+    (read-stops (top-word 15 1 ++ top-word 1 3), stops (some 24)) ∷
+    (read-stops (top-word 15 1 ++ top-word 2 30), stops (some 24)) ∷
+    (read-stops (top-word 15 1 ++ top-word 2 30 ++ top-word 1 3), stops (some 24)) ∷
+    (read-stops (older-list ++ top-word 3 0), stops (some 24)) ∷
+    (read-stops (top-word 15 2 ++ top-word 0 0 ++ top-word 1 3 ++ top-word 2 30), stops (some 24)) ∷
+    (read-stops (top-word 15 2 ++ top-word 1 3 ++ top-word 2 30), stops none) ∷
+    (read-stops (newer-list ++ top-word 3 0), stops (some 24)) ∷
+    (read-stops (newer-list ++ top-word 14 0), stops (some 24)) ∷
+    (read-stops (newer-list ++ top-word 15 2), stops (some 24)) ∷
+    (read-stops (top-word 15 1 ++ top-word 2 301 ++ top-word 1 16), stops (some 24)) ∷
+    (read-stops (top-word 15 1 ++ top-word 1 15 ++ top-word 2 300), stops none) ∷
+    (read-stops (top-word 15 1 ++ top-word 1 16 ++ top-word 2 300), stops (some 25)) ∷
+    (read-stops (top-word 15 1 ++ top-word 1 0 ++ top-word 2 4), stops (some 25)) ∷
+    (read-stops (top-word 15 1 ++ top-word 1 0 ++ top-word 2 5), stops none) ∷
+    (read-stops (top-word 15 1 ++ top-word 1 0 ++ top-word 2 301), stops (some 25)) ∷ []
 
 abbrev pub lists-written : List (Value × Value)
 lists-written =
-    (writes older-list 1 15, holds (word 15 1 ++ word 1 15 ++ word 2 30)) ∷
-    (writes newer-list 2 300, holds (word 15 2 ++ word 1 3 ++ word 2 300 ++ word 7 4711 ++ word 14 0)) ∷
-    (writes newer-list 7 268435455, holds (word 15 2 ++ word 1 3 ++ word 2 30 ++ word 7 268435455 ++ word 14 0)) ∷
-    (writing newer-list 7 268435455, stops none) ∷
-    (writing newer-list 7 268435456, stops (some 25)) ∷
-    (writing newer-list 2 301, stops (some 25)) ∷
-    (writing newer-list 1 16, stops (some 25)) ∷
-    (writing newer-list 15 1, stops (some 24)) ∷
-    (writing newer-list 3 0, stops (some 24)) ∷
-    (writing newer-list 16 0, stops (some 24)) ∷
-    (writing (word 15 1 ++ word 1 16 ++ word 2 30) 1 3, stops (some 25)) ∷
-    (writing (word 15 1 ++ word 1 16 ++ word 2 30) 3 0, stops (some 24)) ∷
-    (writing (0 ∷ older-list) 15 0, stops (some 23)) ∷
-    (writes (word 15 1 ++ word 1 16 ++ word 2 30) 1 3, holds (word 15 1 ++ word 1 16 ++ word 2 30)) ∷ []
+    (writes older-list 1 15, holds (top-word 15 1 ++ top-word 1 15 ++ top-word 2 30)) ∷
+    (writes newer-list 2 300, holds (top-word 15 2 ++ top-word 1 3 ++ top-word 2 300 ++ top-word 7 4711 ++ top-word 14 0)) ∷
+    (writes newer-list 7 268435455, holds (top-word 15 2 ++ top-word 1 3 ++ top-word 2 30 ++ top-word 7 268435455 ++ top-word 14 0)) ∷
+    (write-stops newer-list 7 268435455, stops none) ∷
+    (write-stops newer-list 7 268435456, stops (some 25)) ∷
+    (write-stops newer-list 2 301, stops (some 25)) ∷
+    (write-stops newer-list 1 16, stops (some 25)) ∷
+    (write-stops newer-list 15 1, stops (some 24)) ∷
+    (write-stops newer-list 3 0, stops (some 24)) ∷
+    (write-stops newer-list 17 3, stops (some 24)) ∷
+    (write-stops (top-word 15 1 ++ top-word 1 16 ++ top-word 2 30) 1 3, stops (some 25)) ∷
+    (write-stops (top-word 15 1 ++ top-word 1 16 ++ top-word 2 30) 3 0, stops (some 24)) ∷
+    (write-stops (0 ∷ older-list) 15 0, stops (some 23)) ∷
+    (writes (top-word 15 1 ++ top-word 1 16 ++ top-word 2 30) 1 3, holds (top-word 15 1 ++ top-word 1 16 ++ top-word 2 30)) ∷ []
 
 abbrev pub Agree : List (Value × Value) → Type 0
 Agree rows = map (λ v. v .0) rows ≡ map (λ v. v .1) rows

@@ -1,8 +1,9 @@
 -- The limits and lengths of documents 01 and 02, each named here and, if the code needs it, in src/limits.rt. Elsewhere in the libraries one of
 -- them stands as a numeral only in the types of arrays (a nonce of 12 bytes, a tag or a slot of 16), in Layout.antt of checkpoint, which
 -- gives the papers' offsets as numbers of their own, in Older.antt and Keys.antt of protocol, which write document 01's lists out with its
--- limits and say which lengths of keys are taken, in Each.antt of ring_shapes and Exactly.antt of chain, which say which sizes are taken
--- there, where aes_key, aes and gcm have the standards' numbers, and in Format.antt of intel_hex, which has that format's.
+-- limits and say which lengths of keys are taken, in Each.antt of ring_shapes, Exactly.antt of chain and Rules.antt of settings, which say
+-- which sizes and values are taken there, where aes_key, aes and gcm have the standards' numbers, and in Format.antt of intel_hex, which has
+-- that format's.
 -- Lengths are in bytes; a word is 4.
 use Prim.Native.Nat.{ℕ}
 use mathlib.Core.List.{List, [], _∷_}

@@ -8,5 +8,6 @@ unfoldable pub first-below : ℕ → (ℕ → Bool) → ℕ
 first-below zero test = 0
 first-below (suc n) test = cond (test 0) 0 (suc (first-below n (λ i. test (suc i))))
 
+-- whether there is one
 abbrev pub some-below : ℕ → (ℕ → Bool) → Bool
 some-below n test = ltb (first-below n test) n

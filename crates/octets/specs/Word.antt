@@ -21,8 +21,12 @@ word kind value = bytes 4 (kind * 2 ^ 30 + value)
 
 -- ---- a bench trace's and a setting's (document 02, A.4 and A.12): the top four bits are the kind, the low 28 the value
 
-abbrev pub kind4 : ℕ → ℕ
-kind4 w = w / 2 ^ 28
+abbrev pub top-kind : ℕ → ℕ
+top-kind w = w / 2 ^ 28
 
-abbrev pub value28 : ℕ → ℕ
-value28 w = w % 2 ^ 28
+abbrev pub low-value : ℕ → ℕ
+low-value w = w % 2 ^ 28
+
+-- the bytes of the word of such a kind, 0 to 15, and value
+unfoldable pub top-word : ℕ → ℕ → List ℕ
+top-word kind value = bytes 4 (kind * 2 ^ 28 + value)

@@ -5,7 +5,7 @@ ghost use mathlib.Core.Path.{_≡_};
 ghost use Prim.Native.Nat.{_+_, _^_, _≤_, _<_};
 ghost use lib.ListN.{length, replicate};
 ghost use Rattle.octets.specs.Octets.{part, put, same, blank, bytes};
-ghost use Rattle.octets.specs.Word.{word-at, kind-of, value-of, word, kind4, value28};
+ghost use Rattle.octets.specs.Word.{word-at, kind-of, value-of, word, top-kind, low-value};
 
 // The n bytes from offset i.
 pub fn part(s: &[u8], i: usize, n: usize) -> &[u8]
@@ -148,15 +148,15 @@ pub fn word_of(kind: u32, value: usize) -> [u8; 4]
 }
 
 // The kind of a bench trace's or a setting's word: its top four bits.
-pub fn kind4(w: u32) -> u32
-    ensures { λ r. ⌜ (r ≡ kind4 w) × (r < 16) ⌝ }
+pub fn top_kind(w: u32) -> u32
+    ensures { λ r. ⌜ (r ≡ top-kind w) × (r < 16) ⌝ }
 {
     w / 0x1000_0000
 }
 
 // Its value: the low 28 bits.
-pub fn value28(w: u32) -> u32
-    ensures { λ r. ⌜ (r ≡ value28 w) × (r < 2 ^ 28) ⌝ }
+pub fn low_value(w: u32) -> u32
+    ensures { λ r. ⌜ (r ≡ low-value w) × (r < 2 ^ 28) ⌝ }
 {
     w % 0x1000_0000
 }

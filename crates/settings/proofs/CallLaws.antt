@@ -9,16 +9,18 @@ use native.Mathlib.Omega.{arith}
 use lib.ListN.{length}
 use lib.Dec.{eqb}
 use borrow.Author.Tests.{eqb-false, ne-eqb, ltb-false}
-use Rattle.octets.specs.Octets.{put, bytes}
+use Rattle.octets.specs.Octets.{put}
+use Rattle.octets.specs.Word.{top-word}
 use Rattle.stops.specs.Stops.{first-of}
 use Rattle.stops.proofs.Laws.{passes, neither}
+use Rattle.settings.specs.Rules.{FirstRight}
 use Rattle.settings.specs.Settings.{count, kind-at, value-at, place, missing, list-wrong, kinds-wrong, value-wrong, values-wrong, list-stop, Volume-delay, Stopped, read-stop, read-by, settings-read, write-stop, changed, written-by, settings-write}
-use Rattle.settings.proofs.Laws.{Whole, Kinds, whole, kinds, there, kind-small, volume-place, delay-place}
+use Rattle.settings.proofs.Laws.{Kinds, first-right, kinds, there, kind-small, volume-place, delay-place}
 
 -- ---- the stops
 
 -- 25 looks at the second and the third word
-pub values-in-front : (L : List ℕ) → Whole L → Kinds L → value-wrong 1 (value-at L 1) || value-wrong 2 (value-at L 2) ≡ values-wrong L
+pub values-in-front : (L : List ℕ) → FirstRight L → Kinds L → value-wrong 1 (value-at L 1) || value-wrong 2 (value-at L 2) ≡ values-wrong L
 unfolding values-wrong
 values-in-front L w k = rw (volume-place L w k, delay-place L w k)
 
@@ -38,7 +40,7 @@ module _ (L : List ℕ) (kind-refused value-refused : Bool) where
 
   -- what is known where there is none
   pub record Passed : Type 0 where
-    pub is-whole : Whole L
+    pub is-right : FirstRight L
     pub has-kinds : Kinds L
     pub list-right : list-wrong L ≡ false
     pub kinds-right : kinds-wrong L ≡ false
@@ -52,8 +54,8 @@ module _ (L : List ℕ) (kind-refused value-refused : Bool) where
       let p = passes ((23, list-wrong L) ∷ (24, kinds-wrong L || kind-refused) ∷ (25, values-wrong L || value-refused) ∷ []) e in
       let k = neither _ _ (p .1 .0) in
       let v = neither _ _ (p .1 .1 .0) in
-      let w = whole L (p .0) in
-      record { is-whole = w; has-kinds = kinds L w (k .0); list-right = p .0; kinds-right = k .0; values-right = v .0; kind-taken = k .1; value-taken = v .1 }
+      let w = first-right L (p .0) in
+      record { is-right = w; has-kinds = kinds L w (k .0); list-right = p .0; kinds-right = k .0; values-right = v .0; kind-taken = k .1; value-taken = v .1 }
 
   pub passes-all : list-wrong L ≡ false → kinds-wrong L ≡ false → values-wrong L ≡ false → kind-refused ≡ false → value-refused ≡ false
       → list-stop L kind-refused value-refused ≡ none
@@ -77,7 +79,7 @@ unfolding value-wrong
 other-range k v a b e = ltb-false _ _ (rw (ne-eqb k 1 a, ne-eqb k 2 b) at e)
 
 -- of 28 bits
-value-small : (k v : ℕ) → value-wrong k v ≡ false → v < 2 ^ 28
+pub value-small : (k v : ℕ) → value-wrong k v ≡ false → v < 2 ^ 28
 value-small k v e = go (ℕ-discrete k 1) (ℕ-discrete k 2)
   where
     go : Dec (k ≡ 1) → Dec (k ≡ 2) → v < 2 ^ 28
@@ -96,7 +98,7 @@ module _ (L : List ℕ) where
   unfolding settings-read read-stop read-by
   read a b e f g =
       let p = passed L false false (sym e) in
-      rw (sym e, volume-place L (p .is-whole) (p .has-kinds), delay-place L (p .is-whole) (p .has-kinds), f, g)
+      rw (sym e, volume-place L (p .is-right) (p .has-kinds), delay-place L (p .is-right) (p .has-kinds), f, g)
 
 -- ---- the writer
 
@@ -115,9 +117,9 @@ writes L k v e =
     let p = passed L (eqb k 15 || missing L k) (value-wrong k v) e in
     let b = neither _ _ (p .kind-taken) in
     let t = there L k (b .1) in
-    let not-first : place L k ≡ 0 → ⊥ = λ z. eqb-false k 15 (b .0) (sym (t .1) ∙ ap (kind-at L) z ∙ p .is-whole .first) in
+    let not-first : place L k ≡ 0 → ⊥ = λ z. eqb-false k 15 (b .0) (sym (t .1) ∙ ap (kind-at L) z ∙ p .is-right .kind) in
     let behind : 1 ≤ place L k = omega (arith, not-first) in
-    record { behind-first = behind; within = t .0; has-kind = t .1; room = omega (arith, t .0, p .is-whole .words); kind-small = omega (arith, kind-small L (p .has-kinds .rising) (place L k) behind (t .0), t .1); value-small = value-small k v (p .value-taken) }
+    record { behind-first = behind; within = t .0; has-kind = t .1; room = omega (arith, t .0, p .is-right .whole); kind-small = omega (arith, kind-small L (p .has-kinds .rising) (place L k) behind (t .0), t .1); value-small = value-small k v (p .value-taken) }
 
 module _ (L : List ℕ) (k v : ℕ) where
   -- the stop, from what the code finds
@@ -126,9 +128,9 @@ module _ (L : List ℕ) (k v : ℕ) where
   unfolding write-stop
   write-stopped o at wrong e f g = g ∙ (λ i. list-stop L (eqb k 15 || eqb (e i) (count L)) (f i))
 
-  pub is-changed : (left : List ℕ) (at : ℕ) → at ≡ place L k → left ≡ put L (4 * at) (bytes 4 (k * 2 ^ 28 + v)) → left ≡ changed L k v
+  pub is-changed : (left : List ℕ) (at : ℕ) → at ≡ place L k → left ≡ put L (4 * at) (top-word k v) → left ≡ changed L k v
   unfolding changed
-  is-changed left at e f = f ∙ ap (λ (i : ℕ). put L (4 * i) (bytes 4 (k * 2 ^ 28 + v))) e
+  is-changed left at e f = f ∙ ap (λ (i : ℕ). put L (4 * i) (top-word k v)) e
 
   pub refused : (s : ℕ) → some s ≡ write-stop L k v → record { stop = some s; list = L } ≡ settings-write L k v
   unfolding settings-write written-by

@@ -1,5 +1,5 @@
 -- Laws of a list's words: where a kind stands, and what is known of kinds that rise. Assumes nothing.
-use Prim.Native.Nat.{ℕ, zero, suc, _+_, _-_, _*_, _%_, _≤_, _<_}
+use Prim.Native.Nat.{ℕ, zero, suc, _+_, _-_, _%_, _≤_, _<_}
 use mathlib.Core.Path.{_≡_, refl, sym, ap, subst, _∙_}
 use mathlib.Core.Bool.{Bool, true, false, cond, not, _&&_, _||_, true≢false}
 use mathlib.Core.List.{List}
@@ -12,6 +12,7 @@ use borrow.Author.Tests.{eqb-true, eqb-false, eq-eqb, ne-eqb, ltb-false, lt-ltb,
 use Rattle.octets.specs.Search.{some-below}
 use Rattle.octets.proofs.Search.{NoneBefore, found, none-below, ends, only-one}
 use Rattle.stops.proofs.Laws.{neither}
+use Rattle.settings.specs.Rules.{FirstRight}
 use Rattle.settings.specs.Settings.{count, kind-at, place, missing, version, last-kind, list-wrong, kind-wrong, kinds-wrong}
 
 -- ---- where a kind stands
@@ -47,12 +48,6 @@ module _ (L : List ℕ) (k : ℕ) where
 
 -- ---- lists that 23 does not refuse
 
-pub record Whole (L : List ℕ) : Type 0 where
-  pub words : length L ≡ 4 * count L
-  pub some : 1 ≤ count L
-  pub first : kind-at L 0 ≡ 15
-  pub versions : (version L ≡ 1) ⊎ (version L ≡ 2)
-
 one-or-two : (v : ℕ) → not (eqb v 1 || eqb v 2) ≡ false → (v ≡ 1) ⊎ (v ≡ 2)
 one-or-two v e = go (eqb v 1) refl
   where
@@ -60,15 +55,15 @@ one-or-two v e = go (eqb v 1) refl
     go true a = inl (eqb-true v 1 a)
     go false a = inr (eqb-true v 2 (sym (ap (λ (t : Bool). t || eqb v 2) a) ∙ not-false (eqb v 1 || eqb v 2) e))
 
-pub whole : (L : List ℕ) → list-wrong L ≡ false → Whole L
+pub first-right : (L : List ℕ) → list-wrong L ≡ false → FirstRight L
 unfolding list-wrong
-whole L w =
+first-right L w =
     let c = neither _ _ w in
     let b = neither _ _ (c .0) in
     let a = neither _ _ (b .0) in
     let no-rest : length L % 4 ≡ 0 = eqb-true _ _ (not-false _ (a .0)) in
     let some : count L ≡ 0 → ⊥ = eqb-false _ _ (a .1) in
-    record { words = omega (arith, no-rest); some = omega (arith, some); first = eqb-true _ _ (not-false _ (b .1)); versions = one-or-two (version L) (c .1) }
+    record { whole = omega (arith, no-rest); there = omega (arith, some); kind = eqb-true _ _ (not-false _ (b .1)); versions = one-or-two (version L) (c .1) }
 
 -- what the code tests first, and what then
 pub not-words : (L : List ℕ) → not (eqb (length L % 4) 0) || eqb (count L) 0 ≡ true → list-wrong L ≡ true
@@ -103,9 +98,9 @@ module _ (L : List ℕ) (i : ℕ) (h : 1 ≤ i) (w : kind-wrong L i ≡ false) w
   right-rise : 2 ≤ i → kind-at L (i - 1) < kind-at L i
   right-rise h₂ = leb-false (kind-at L i) (kind-at L (i - 1)) (and-false (ltb 1 i) _ (lt-ltb 1 i h₂) (right .2))
 
-pub first-right : (L : List ℕ) → kind-wrong L 0 ≡ false
+pub none-first : (L : List ℕ) → kind-wrong L 0 ≡ false
 unfolding kind-wrong
-first-right L = refl
+none-first L = refl
 
 -- of a word behind the first the code tests this
 pub kind-tested : (L : List ℕ) (i : ℕ) → 1 ≤ i
@@ -157,10 +152,10 @@ pub record Front (L : List ℕ) : Type 0 where
   pub volume : kind-at L 1 ≡ 1
   pub delay : kind-at L 2 ≡ 2
 
-module _ (L : List ℕ) (w : Whole L) (r : Rises L) where
+module _ (L : List ℕ) (w : FirstRight L) (r : Rises L) where
   -- a word of another kind than 15 is behind the first
   behind : (i k : ℕ) → kind-at L i ≡ k → k < 15 → 1 ≤ i
-  behind zero k e h = absurd (omega (arith, e, w .first, h))
+  behind zero k e h = absurd (omega (arith, e, w .kind, h))
   behind (suc i) k e h = omega arith
 
   -- kind k stands at place k at the furthest
@@ -211,7 +206,7 @@ unfolding kinds-wrong
 kinds-found-wrong L e = ap (λ (t : Bool). missing L 1 || missing L 2 || t) e ∙ or-last (missing L 1) (missing L 2)
 
 -- 1 or 2 does not stand in front
-pub kinds-not-front : (L : List ℕ) → Whole L → Rises L → (Front L → ⊥) → kinds-wrong L ≡ true
+pub kinds-not-front : (L : List ℕ) → FirstRight L → Rises L → (Front L → ⊥) → kinds-wrong L ≡ true
 unfolding kinds-wrong
 kinds-not-front L w r f = or-one (missing L 1) (missing L 2) (some-below (count L) (kind-wrong L)) (λ a b. f (front L w r a b))
 
@@ -221,7 +216,7 @@ unfolding kinds-wrong
 kinds-right L e f = rw (not-missing L 1 1 (omega (arith, f .long)) (f .volume), not-missing L 2 2 (omega (arith, f .long)) (f .delay), e)
 
 -- with room for both, the code tests the two words
-pub front-tested : (L : List ℕ) → Whole L → some-below (count L) (kind-wrong L) ≡ false → 3 ≤ count L
+pub front-tested : (L : List ℕ) → FirstRight L → some-below (count L) (kind-wrong L) ≡ false → 3 ≤ count L
     → not (eqb (kind-at L 1) 1) || not (eqb (kind-at L 2) 2) ≡ kinds-wrong L
 front-tested L w e h = go (ℕ-discrete (kind-at L 1) 1) (ℕ-discrete (kind-at L 2) 2)
   where
@@ -235,7 +230,7 @@ pub record Kinds (L : List ℕ) : Type 0 where
   pub rising : Rises L
   pub in-front : Front L
 
-pub kinds : (L : List ℕ) → Whole L → kinds-wrong L ≡ false → Kinds L
+pub kinds : (L : List ℕ) → FirstRight L → kinds-wrong L ≡ false → Kinds L
 unfolding kinds-wrong
 kinds L w e =
     let b = neither _ _ e in
@@ -244,7 +239,7 @@ kinds L w e =
     record { rising = r; in-front = front L w r (a .0) (a .1) }
 
 -- volume and delay are found at their places
-module _ (L : List ℕ) (w : Whole L) (k : Kinds L) where
+module _ (L : List ℕ) (w : FirstRight L) (k : Kinds L) where
   pub volume-place : place L 1 ≡ 1
   volume-place = placed-at L w (k .rising) 1 1 (omega arith) (omega (arith, k .in-front .long)) (k .in-front .volume)
 

@@ -1,15 +1,15 @@
 -- Settings in the open part (document 02, A.12). A list L is the whole part: words, most significant byte first, each with its kind in the top
 -- four bits and its value in the other 28. A word is known by its place, counted from 0. The first gives the list's version.
-use Prim.Native.Nat.{ℕ, _+_, _-_, _*_, _/_, _%_, _^_}
+use Prim.Native.Nat.{ℕ, _-_, _*_, _/_, _%_}
 use mathlib.Core.Bool.{Bool, false, cond, not, _&&_, _||_}
 use mathlib.Core.Option.{Option, none, some}
 use mathlib.Core.List.{List, [], _∷_}
 use lib.ListN.{length}
 use lib.Dec.{eqb, leb, ltb}
 use Rattle.octets.specs.Limits.{volume-limit, delay-least, delay-limit, setting-limit}
-use Rattle.octets.specs.Octets.{put, bytes}
+use Rattle.octets.specs.Octets.{put}
 use Rattle.octets.specs.Search.{first-below, some-below}
-use Rattle.octets.specs.Word.{word-at, kind4, value28}
+use Rattle.octets.specs.Word.{word-at, top-kind, low-value, top-word}
 use Rattle.stops.specs.Stops.{first-of}
 use Rattle.stops.specs.View.{stop-number, check-number}
 use Rattle.stops.specs.declared.Check.{Check}
@@ -23,10 +23,10 @@ abbrev pub count : List ℕ → ℕ
 count L = length L / 4
 
 abbrev pub kind-at : (L : List ℕ) → ℕ → ℕ
-kind-at L i = kind4 (word-at L (4 * i))
+kind-at L i = top-kind (word-at L (4 * i))
 
 abbrev pub value-at : (L : List ℕ) → ℕ → ℕ
-value-at L i = value28 (word-at L (4 * i))
+value-at L i = low-value (word-at L (4 * i))
 
 -- the place of the first word of a kind; `count L` if there is none
 unfoldable pub place : (L : List ℕ) (kind : ℕ) → ℕ
@@ -71,11 +71,11 @@ kinds-wrong L = missing L 1 || missing L 2 || some-below (count L) (kind-wrong L
 unfoldable pub value-wrong : (kind value : ℕ) → Bool
 value-wrong k v = cond (eqb k 1) (ltb volume-limit v) (cond (eqb k 2) (ltb v delay-least || ltb delay-limit v) (ltb setting-limit v))
 
--- 25
+-- 25: volume or delay is out of range
 unfoldable pub values-wrong : List ℕ → Bool
 values-wrong L = value-wrong 1 (volume L) || value-wrong 2 (delay L)
 
--- the reader's and the writer's, who is refused a kind and a value besides
+-- the stops of both; the writer's kind and value may be refused besides
 unfoldable pub list-stop : List ℕ → (kind-refused value-refused : Bool) → Option ℕ
 list-stop L kind-refused value-refused = first-of (
     (23, list-wrong L) ∷
@@ -117,7 +117,7 @@ pub record Written : Type 0 where
 
 -- the list with a word put over the one of its kind
 unfoldable pub changed : List ℕ → (kind value : ℕ) → List ℕ
-changed L k v = put L (4 * place L k) (bytes 4 (k * 2 ^ 28 + v))
+changed L k v = put L (4 * place L k) (top-word k v)
 
 -- on a stop the list is as it was
 unfoldable pub written-by : Option ℕ → List ℕ → (kind value : ℕ) → Written

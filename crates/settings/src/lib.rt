@@ -1,28 +1,29 @@
 // Settings in the open part (document 02, A.12): volume and alert delay read from a list, and one setting of a list changed where it stands.
 use octets::copy_at;
-use octets::kind4;
 use octets::limits::DELAY_LEAST;
 use octets::limits::DELAY_LIMIT;
 use octets::limits::SETTING_LIMIT;
 use octets::limits::VOLUME_LIMIT;
-use octets::value28;
+use octets::low_value;
+use octets::top_kind;
 use octets::word_at;
 use octets::word_bytes;
 use stops::Check;
 use stops::Stop;
 ghost use mathlib.Core.Path.{_≡_};
 ghost use mathlib.Core.Bool.{false};
-ghost use Prim.Native.Nat.{_+_, _*_, _^_, _≤_, _<_};
-ghost use Rattle.octets.specs.Octets.{put, bytes};
+ghost use Prim.Native.Nat.{_*_, _^_, _≤_, _<_};
+ghost use Rattle.octets.specs.Octets.{put};
+ghost use Rattle.octets.specs.Word.{top-word};
 ghost use Rattle.stops.specs.View.{check-number};
 ghost use Rattle.settings.specs.Settings.{count, kind-at, value-at, place, last-kind, list-wrong, kind-wrong, kinds-wrong, value-wrong, values-wrong, list-stop, settings-read, reading, settings-write, written-as};
 
-// The kinds of version 1: the first word's, whose value is the version, and its settings'.
-pub const VERSION: u32 = 15;
+// The kind of the first word, whose value is the list's version, and those of version 1's settings.
+pub const LIST_VERSION: u32 = 15;
 
 pub const VOLUME: u32 = 1;
 
-pub const DELAY: u32 = 2;
+pub const ALERT_DELAY: u32 = 2;
 
 // The last kind of version 2.
 const LAST: u32 = 14;
@@ -38,7 +39,7 @@ pub fn kind_at(list: &[u8], i: usize) -> u32
     requires { ⌜ i < count (now list) ⌝ }
     ensures { λ r. ⌜ (r ≡ kind-at (now (list .entry)) i) × (r < 16) ⌝ }
 {
-    kind4(word_at(list, 4 * i))
+    top_kind(word_at(list, 4 * i))
 }
 
 // The value of word i.
@@ -46,7 +47,7 @@ pub fn value_at(list: &[u8], i: usize) -> u32
     requires { ⌜ i < count (now list) ⌝ }
     ensures { λ r. ⌜ (r ≡ value-at (now (list .entry)) i) × (r < 2 ^ 28) ⌝ }
 {
-    value28(word_at(list, 4 * i))
+    low_value(word_at(list, 4 * i))
 }
 
 // The place of the first word of a kind; past the last if there is none.
@@ -70,14 +71,14 @@ fn list_wrong(list: &[u8]) -> bool
         return true;
     }
     let version = value_at(list, 0);
-    (kind_at(list, 0) != VERSION) | !((version == 1) | (version == 2))
+    (kind_at(list, 0) != LIST_VERSION) | !((version == 1) | (version == 2))
 }
 
 // The last kind of a version.
 fn last_kind(version: u32) -> u32
     ensures { λ r. ⌜ r ≡ last-kind version ⌝ }
 {
-    if version == 1 { DELAY } else { LAST }
+    if version == 1 { ALERT_DELAY } else { LAST }
 }
 
 // Whether the kind of word i, which is behind the first, is not the version's or does not rise.
@@ -103,7 +104,7 @@ fn kinds_wrong(list: &[u8]) -> bool
     if n < 3 {
         return true;
     }
-    (kind_at(list, 1) != VOLUME) | (kind_at(list, 2) != DELAY)
+    (kind_at(list, 1) != VOLUME) | (kind_at(list, 2) != ALERT_DELAY)
 }
 
 // Whether a kind does not take a value.
@@ -113,7 +114,7 @@ fn value_wrong(kind: u32, value: u32) -> bool
     if kind == VOLUME {
         return value > VOLUME_LIMIT;
     }
-    if kind == DELAY {
+    if kind == ALERT_DELAY {
         return (value < DELAY_LEAST) | (value > DELAY_LIMIT);
     }
     value > SETTING_LIMIT
@@ -124,7 +125,7 @@ fn values_wrong(list: &[u8]) -> bool
     requires { ⌜ (list-wrong (now list) ≡ false) × (kinds-wrong (now list) ≡ false) ⌝ }
     ensures { λ r. ⌜ r ≡ values-wrong (now (list .entry)) ⌝ }
 {
-    value_wrong(VOLUME, value_at(list, 1)) | value_wrong(DELAY, value_at(list, 2))
+    value_wrong(VOLUME, value_at(list, 1)) | value_wrong(ALERT_DELAY, value_at(list, 2))
 }
 
 // The stops of a list; 24 and 25 also for a kind and a value that a writer is refused.
@@ -157,7 +158,7 @@ pub fn settings_read(list: &[u8]) -> Settings
 // Puts a word of a kind and a value over word i.
 fn put_word(list: &mut [u8], i: usize, kind: u32, value: u32)
     requires { ⌜ (i < count (now list)) × (kind < 16) × (value < 2 ^ 28) ⌝ }
-    ensures { λ _. ⌜ now (list .exit) ≡ put (now (list .entry)) (4 * i) (bytes 4 (kind * 2 ^ 28 + value)) ⌝ }
+    ensures { λ _. ⌜ now (list .exit) ≡ put (now (list .entry)) (4 * i) (top-word kind value) ⌝ }
 {
     copy_at(&word_bytes(kind * 0x1000_0000 + value), list, 4 * i);
 }
@@ -168,7 +169,11 @@ pub fn settings_write(list: &mut [u8], kind: u32, value: u32) -> Check
 {
     let at = place(list, kind);
     let missing = at == list.len() / 4;
-    let check = check(list, (kind == VERSION) | missing, value_wrong(kind, value));
+    let check = check(
+        list,
+        (kind == LIST_VERSION) | missing,
+        value_wrong(kind, value),
+    );
     match check {
         Check::Stopped(stop) => Check::Stopped(stop),
         Check::Pass => {

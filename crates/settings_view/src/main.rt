@@ -8,9 +8,9 @@ use bench_io::read_open;
 use libc::STDIN_FILENO;
 use libc::STDOUT_FILENO;
 use octets::limits::PART_LIMIT;
-use settings::DELAY;
+use settings::ALERT_DELAY;
+use settings::LIST_VERSION;
 use settings::Settings;
-use settings::VERSION;
 use settings::VOLUME;
 use settings::kind_at;
 use settings::settings_read;
@@ -28,13 +28,13 @@ fn write_line(words: &[u8], number: u32, end: &[u8]) -> bool {
 
 // Writes the line of a word; whether all was taken.
 fn write_word(kind: u32, value: u32) -> bool {
-    if kind == VERSION {
+    if kind == LIST_VERSION {
         return write_line(b"version ", value, b"\n");
     }
     if kind == VOLUME {
         return write_line(b"volume ", value, b"\n");
     }
-    if kind == DELAY {
+    if kind == ALERT_DELAY {
         return write_line(b"alert delay ", value, b" s\n");
     }
     write_line(b"kind ", kind, b": ") & write_line(b"", value, b"\n")

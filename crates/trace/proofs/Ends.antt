@@ -11,7 +11,7 @@ use lib.ListN.{length, length-replicate}
 use borrow.Author.Tests.{ltb-false}
 use Rattle.octets.specs.Octets.{part}
 use Rattle.octets.proofs.Laws.{length-part, length-put}
-use Rattle.octets.specs.Word.{value28}
+use Rattle.octets.specs.Word.{low-value}
 use Rattle.stops.proofs.Laws.{passes, neither}
 use Rattle.ring.specs.Ring.{page-before}
 use Rattle.checkpoint.specs.Fram.{half-length}
@@ -159,7 +159,7 @@ step-kept : (key : List ℕ) (b : Bench) (w : ℕ) → length (step key b w .fra
 unfolding step cut-set operated
 step-kept key b w = go (is-cut w)
   where
-    go : (c : Bool) → length (cond c (cut-set b (value28 w)) (operated key b w) .fram) ≡ length (b .fram)
+    go : (c : Bool) → length (cond c (cut-set b (low-value w)) (operated key b w) .fram) ≡ length (b .fram)
     go true = refl
     go false = operation-kept key b w
 

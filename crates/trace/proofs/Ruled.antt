@@ -13,7 +13,7 @@ use Rattle.octets.specs.Octets.{blank}
 use Rattle.octets.proofs.Laws.{blank-erased}
 use Rattle.octets.specs.Limits.{fram-limit, part-limit, nonce-length}
 use Rattle.octets.proofs.Numbers.{length-bytes}
-use Rattle.octets.specs.Word.{kind4, value28}
+use Rattle.octets.specs.Word.{top-kind, low-value}
 use Rattle.ring.specs.Ring.{Newest, Blank, Unreadable, At, AtPending, ring-wrong}
 use Rattle.checkpoint.proofs.FramLaws.{an-image}
 use Rattle.checkpoint.specs.Checkpoint.{Checkpoint}
@@ -105,8 +105,8 @@ line-kept (Stopped n) s t e = refl
 
 later-differ : (w : ℕ) (more : List ℕ) → AllDiffer (nonces (w ∷ more)) → (c : Bool) → is-cut w ≡ c → AllDiffer (nonces more)
 unfolding nonces AllDiffer
-later-differ w more d true e = subst (λ (c : Bool). AllDiffer (cond c (nonces more) (nonce-of (value28 w) ∷ nonces more))) e d
-later-differ w more d false e = subst (λ (c : Bool). AllDiffer (cond c (nonces more) (nonce-of (value28 w) ∷ nonces more))) e d .1
+later-differ w more d true e = subst (λ (c : Bool). AllDiffer (cond c (nonces more) (nonce-of (low-value w) ∷ nonces more))) e d
+later-differ w more d false e = subst (λ (c : Bool). AllDiffer (cond c (nonces more) (nonce-of (low-value w) ∷ nonces more))) e d .1
 
 blank-ring : blank (blank-bench .ring) ≡ true
 unfolding blank-bench
@@ -199,9 +199,9 @@ module _ (key : List ℕ) (right : key-refused key ≡ false) where
   abbrev start-of : Bench → ℕ → Begin
   start-of b w = start key (b .ring) (b .fram) (b .session) w bench-staging
 
-  called : (b : Bench) (s : State) (w : ℕ) (words : List ℕ) → Like b s words → CallOf s (call key (b .session) w) (start-of b w) (nonce-of (value28 w))
+  called : (b : Bench) (s : State) (w : ℕ) (words : List ℕ) → Like b s words → CallOf s (call key (b .session) w) (start-of b w) (nonce-of (low-value w))
   unfolding call start
-  called b s w words l = any-call s (b .ring) (b .fram) (l .ring) (l .fram) (l .firmware) (value28 w) (mod-lt w (lit< tt)) (l .holds) (ap length (l .fram) ∙ l .long) (eqb (kind4 w) 1) (eqb (kind4 w) 2) (b .session) (l .session)
+  called b s w words l = any-call s (b .ring) (b .fram) (l .ring) (l .fram) (l .firmware) (low-value w) (mod-lt w (lit< tt)) (l .holds) (ap length (l .fram) ∙ l .long) (eqb (top-kind w) 1) (eqb (top-kind w) 2) (b .session) (l .session)
 
   kind-to-come : (ring fram : List ℕ) (o : Option Session) (v : ℕ) (first again : Bool)
       → cond first (save this-firmware ring fram (saving key v bench-staging zero-tag)) (cond again (save-with key ring fram o v bench-staging) (power-up this-firmware ring fram (powering-up key v bench-staging))) .answer ≡ Begun
@@ -214,7 +214,7 @@ module _ (key : List ℕ) (right : key-refused key ≡ false) where
 
   start-to-come : (b : Bench) (w : ℕ) → start-of b w .answer ≡ Begun → 1 ≤ left-of (start-of b w .job)
   unfolding start
-  start-to-come b w e = kind-to-come (b .ring) (b .fram) (b .session) (value28 w) (eqb (kind4 w) 1) (eqb (kind4 w) 2) e
+  start-to-come b w e = kind-to-come (b .ring) (b .fram) (b .session) (low-value w) (eqb (top-kind w) 1) (eqb (top-kind w) 2) e
 
   -- what the operation and its part of the list come to, before a power loss
   record Comes (b : Bench) (s t : State) (w : ℕ) : Type 0 where
@@ -223,7 +223,7 @@ module _ (key : List ℕ) (right : key-refused key ≡ false) where
     firmware : t .firmware ≡ this-firmware
     kept : (z : Session) → List·Memᴰ z (s .sessions) → List·Memᴰ z (t .sessions)
     new : (z : Session) → session-from (operation key b w .progress) (operation key b w .session) none ≡ some z → List·Memᴰ z (t .sessions)
-    used : (n : List ℕ) → List·Memᴰ n (t .nonces) → (n ≡ nonce-of (value28 w)) ⊎ List·Memᴰ n (s .nonces)
+    used : (n : List ℕ) → List·Memᴰ n (t .nonces) → (n ≡ nonce-of (low-value w)) ⊎ List·Memᴰ n (s .nonces)
     line : line-after (operation key b w .progress) (operation key b w .ring) ≡ call-line (call-answer s (call key (b .session) w)) t
     unstopped : start-of b w .answer ≡ Begun → is-stopped (operation key b w .progress) ≡ false
 
@@ -237,15 +237,15 @@ module _ (key : List ℕ) (right : key-refused key ≡ false) where
   Main b s w = Allowed (bench-setup key) s (main-events b s w) × Comes b s (run (bench-setup key) s (main-events b s w)) w
 
   module _ (b : Bench) (s : State) (w : ℕ) (more : List ℕ) (l : Like b s (w ∷ more)) (op : is-cut w ≡ false) where
-    here : nonces (w ∷ more) ≡ nonce-of (value28 w) ∷ nonces more
+    here : nonces (w ∷ more) ≡ nonce-of (low-value w) ∷ nonces more
     unfolding nonces
     here = rw op
 
-    c : CallOf s (call key (b .session) w) (start-of b w) (nonce-of (value28 w))
+    c : CallOf s (call key (b .session) w) (start-of b w) (nonce-of (low-value w))
     c = called b s w (w ∷ more) l
 
-    new-nonce : List·Memᴰ (nonce-of (value28 w)) (s .nonces) → ⊥
-    new-nonce m = l .unused _ m (subst (λ (y : List (List ℕ)). List·Memᴰ (nonce-of (value28 w)) y) (sym here) (List·Memᴰ·head refl))
+    new-nonce : List·Memᴰ (nonce-of (low-value w)) (s .nonces) → ⊥
+    new-nonce m = l .unused _ m (subst (λ (y : List (List ℕ)). List·Memᴰ (nonce-of (low-value w)) y) (sym here) (List·Memᴰ·head refl))
 
     -- a start that stops
     comes-stopped : (x : ℕ) → start-of b w .answer ≡ Stopped x → Main b s w
@@ -351,7 +351,7 @@ module _ (key : List ℕ) (right : key-refused key ≡ false) where
       let y = lost (b .cut) t in
       let path : run (bench-setup key) s (events ++ loss-if (b .cut)) ≡ run (bench-setup key) t (loss-if (b .cut)) = run-append (bench-setup key) events (loss-if (b .cut)) s in
       let allowed = allowed-append (bench-setup key) events (loss-if (b .cut)) s (x .0) (y .0) in
-      let differ : AllDiffer (nonce-of (value28 w) ∷ nonces more) = subst AllDiffer (here b s w more l op) d in (
+      let differ : AllDiffer (nonce-of (low-value w) ∷ nonces more) = subst AllDiffer (here b s w more l op) d in (
         (
           allowed,
           record {
@@ -368,7 +368,7 @@ module _ (key : List ℕ) (right : key-refused key ≡ false) where
         x .1 .line ∙ line-kept _ t _ (ap (λ (q : State). q .ring) path ∙ y .1 .ring),
       )
     where
-      unused-on : (n : List ℕ) → (n ≡ nonce-of (value28 w)) ⊎ List·Memᴰ n (s .nonces) → (List·Memᴰ (nonce-of (value28 w)) (nonces more) → ⊥) → List·Memᴰ n (nonces more) → ⊥
+      unused-on : (n : List ℕ) → (n ≡ nonce-of (low-value w)) ⊎ List·Memᴰ n (s .nonces) → (List·Memᴰ (nonce-of (low-value w)) (nonces more) → ⊥) → List·Memᴰ n (nonces more) → ⊥
       unused-on n (inl e) f k = f (subst (λ (q : List ℕ). List·Memᴰ q (nonces more)) e k)
       unused-on n (inr m) f k = l .unused n m (subst (λ (q : List (List ℕ)). List·Memᴰ n q) (sym (here b s w more l op)) (List·Memᴰ·tail k))
 
@@ -392,10 +392,10 @@ module _ (key : List ℕ) (right : key-refused key ≡ false) where
 
   -- a word, with the line that it prints
   one : (b : Bench) (s : State) (w : ℕ) (more : List ℕ) → Like b s (w ∷ more) → AllDiffer (nonces (w ∷ more)) → (c : Bool) → is-cut w ≡ c
-      → Goes s (cond c [] (operation-events key b s w)) (cond c (cut-set b (value28 w)) (operated key b w)) more
+      → Goes s (cond c [] (operation-events key b s w)) (cond c (cut-set b (low-value w)) (operated key b w)) more
       × (cond c [] (line-after (operation key b w .progress) (operation key b w .ring))
       ≡ cond c [] (call-line (call-answer s (call key (b .session) w)) (run (bench-setup key) s (cond c [] (operation-events key b s w)))))
-  one b s w more l d true e = (sets b s w (value28 w) more l e, refl)
+  one b s w more l d true e = (sets b s w (low-value w) more l e, refl)
   one b s w more l d false e = operates b s w more l e d
 
   goes : (to-come words : List ℕ) (b : Bench) (s : State) → Like b s (words ++ to-come) → AllDiffer (nonces (words ++ to-come))
@@ -427,12 +427,12 @@ module _ (key : List ℕ) (right : key-refused key ≡ false) where
   }
 
   -- the last power-up of Recovery, with what the bench gives it
-  last-call : (words : List ℕ) (w : ℕ) → is-cut w ≡ false → Like (after key blank-bench words) (state-after key words) (w ∷ []) → Last (bench-setup key) (state-after key words) (powering-up key (value28 w) bench-staging)
+  last-call : (words : List ℕ) (w : ℕ) → is-cut w ≡ false → Like (after key blank-bench words) (state-after key words) (w ∷ []) → Last (bench-setup key) (state-after key words) (powering-up key (low-value w) bench-staging)
   unfolding nonces half-length
   last-call words w op l = record {
     sizes = refl;
     key = refl;
-    nonce-long = length-bytes nonce-length (value28 w);
+    nonce-long = length-bytes nonce-length (low-value w);
     nonce-new = λ m. l .unused _ m (rw op (List·Memᴰ·head refl));
     staging = let e = ap length (l .fram) ∙ l .long in omega (arith, e, length-replicate {A = ℕ} bench-half 0);
     state = rw (l .firmware) (omega (arith, length-replicate {A = ℕ} part-limit 0));

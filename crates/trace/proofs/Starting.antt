@@ -9,7 +9,7 @@ use borrow.Author.Tests.{eq-eqb, ne-eqb}
 use Rattle.protocol.specs.Types.{this-firmware}
 use Rattle.octets.specs.Limits.{part-limit}
 use Rattle.octets.specs.Octets.{blank, bytes}
-use Rattle.octets.specs.Word.{kind4, value28}
+use Rattle.octets.specs.Word.{top-kind, low-value}
 use Rattle.protocol.specs.Types as types
 use Rattle.protocol.specs.Calls.{From, from-session, saves}
 use Rattle.protocol.specs.Operations.{Begin, no-job, save, power-up}
@@ -60,17 +60,17 @@ power-up-starts key ring fram staging staging′ state′ nonce v p n e =
 
 -- ---- by the word's kind
 
-module _ (key ring fram : List ℕ) (held : Held) (w v : ℕ) (staging staging′ : List ℕ) (r : Started) (e : v ≡ value28 w) where
-  pub starts-first : kind4 w ≡ 1 → Starts r staging′ (save this-firmware ring fram (saving key v staging zero-tag)) → Starts r staging′ (start key ring fram (view-held held) w staging)
+module _ (key ring fram : List ℕ) (held : Held) (w v : ℕ) (staging staging′ : List ℕ) (r : Started) (e : v ≡ low-value w) where
+  pub starts-first : top-kind w ≡ 1 → Starts r staging′ (save this-firmware ring fram (saving key v staging zero-tag)) → Starts r staging′ (start key ring fram (view-held held) w staging)
   unfolding start
-  starts-first k s = rw (eq-eqb (kind4 w) 1 k) (subst (λ (y : ℕ). Starts r staging′ (save this-firmware ring fram (saving key y staging zero-tag))) e s)
+  starts-first k s = rw (eq-eqb (top-kind w) 1 k) (subst (λ (y : ℕ). Starts r staging′ (save this-firmware ring fram (saving key y staging zero-tag))) e s)
 
-  pub starts-next : (kind4 w ≡ 1 → ⊥) → kind4 w ≡ 2 → Starts r staging′ (save-with key ring fram (view-held held) v staging)
+  pub starts-next : (top-kind w ≡ 1 → ⊥) → top-kind w ≡ 2 → Starts r staging′ (save-with key ring fram (view-held held) v staging)
       → Starts r staging′ (start key ring fram (view-held held) w staging)
   unfolding start
-  starts-next k l s = rw (ne-eqb (kind4 w) 1 k, eq-eqb (kind4 w) 2 l) (subst (λ (y : ℕ). Starts r staging′ (save-with key ring fram (view-held held) y staging)) e s)
+  starts-next k l s = rw (ne-eqb (top-kind w) 1 k, eq-eqb (top-kind w) 2 l) (subst (λ (y : ℕ). Starts r staging′ (save-with key ring fram (view-held held) y staging)) e s)
 
-  pub starts-power-up : (kind4 w ≡ 1 → ⊥) → (kind4 w ≡ 2 → ⊥) → Starts r staging′ (power-up this-firmware ring fram (powering-up key v staging))
+  pub starts-power-up : (top-kind w ≡ 1 → ⊥) → (top-kind w ≡ 2 → ⊥) → Starts r staging′ (power-up this-firmware ring fram (powering-up key v staging))
       → Starts r staging′ (start key ring fram (view-held held) w staging)
   unfolding start
-  starts-power-up k l s = rw (ne-eqb (kind4 w) 1 k, ne-eqb (kind4 w) 2 l) (subst (λ (y : ℕ). Starts r staging′ (power-up this-firmware ring fram (powering-up key y staging))) e s)
+  starts-power-up k l s = rw (ne-eqb (top-kind w) 1 k, ne-eqb (top-kind w) 2 l) (subst (λ (y : ℕ). Starts r staging′ (power-up this-firmware ring fram (powering-up key y staging))) e s)

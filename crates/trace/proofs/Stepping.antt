@@ -11,7 +11,7 @@ use lib.Seq.{take-at}
 use Rattle.protocol.specs.Types.{this-firmware}
 use Rattle.octets.specs.Octets.{put}
 use Rattle.octets.proofs.Laws.{put-front}
-use Rattle.octets.specs.Word.{value28}
+use Rattle.octets.specs.Word.{low-value}
 use Rattle.protocol.specs.Types as types
 use Rattle.protocol.specs.Operations.{Moved, no-session, advance}
 use Rattle.protocol.specs.Recovery.{is-going}
@@ -71,7 +71,7 @@ module _ (u : Unit) (m : Moved) (x : Option types.Session) where
 -- ---- a word
 
 module _ (key : List ℕ) (b : Bench) (w : ℕ) where
-  step-cut : is-cut w ≡ true → step key b w ≡ cut-set b (value28 w)
+  step-cut : is-cut w ≡ true → step key b w ≡ cut-set b (low-value w)
   unfolding step
   step-cut e = rw e
 
@@ -87,7 +87,7 @@ module _ (key : List ℕ) (b : Bench) (w : ℕ) where
   unfolding printed
   line-printed e = rw e
 
-pub stepped-cut : (key : List ℕ) (u v : Unit) (w n : ℕ) (ring fram text : List ℕ) (at : ℕ) → is-cut w ≡ true → n ≡ value28 w → (view-held (v .held) ≡ view-held (u .held)) × (view-cut v ≡ some n)
+pub stepped-cut : (key : List ℕ) (u v : Unit) (w n : ℕ) (ring fram text : List ℕ) (at : ℕ) → is-cut w ≡ true → n ≡ low-value w → (view-held (v .held) ≡ view-held (u .held)) × (view-cut v ≡ some n)
     → Stepped key (view-unit u ring fram) w text at (record { unit = v; end = at }) ring fram text
 unfolding cut-set put
 stepped-cut key u v w n ring fram text at c e f =

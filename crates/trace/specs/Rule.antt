@@ -6,7 +6,7 @@ use mathlib.Core.Bool.{false, cond}
 use mathlib.Core.Option.{Option, none, some}
 use mathlib.Core.List.{List, [], _∷_, _++_, List·Memᴰ}
 use lib.Dec.{eqb}
-use Rattle.octets.specs.Word.{kind4, value28}
+use Rattle.octets.specs.Word.{top-kind, low-value}
 use Rattle.protocol.specs.Types.{Session, Start, Begun, Stopped, this-firmware}
 use Rattle.protocol.specs.Calls.{Advances, PowersUp, from-session, Setup, Event, saved, powered-up, advanced-by, PowerLoss, updated-to, lost-in-store}
 use Rattle.protocol.specs.Operations.{no-session, save, power-up, advance}
@@ -30,9 +30,9 @@ given (some z) = z
 -- the call that begins the operation of a word
 unfoldable pub call : (key : List ℕ) → Option Session → ℕ → Event
 call key session w =
-    cond (eqb (kind4 w) 1) (saved (saving key (value28 w) bench-staging zero-tag))
-    (cond (eqb (kind4 w) 2) (saved (saving key (value28 w) bench-staging (from-session (given session))))
-    (powered-up (powering-up key (value28 w) bench-staging)))
+    cond (eqb (top-kind w) 1) (saved (saving key (low-value w) bench-staging zero-tag))
+    (cond (eqb (top-kind w) 2) (saved (saving key (low-value w) bench-staging (from-session (given session))))
+    (powered-up (powering-up key (low-value w) bench-staging)))
 
 abbrev pub advance-of : Handed → Advances
 advance-of h = record { sizes = bench-sizes; job = h .job; staging = h .staging }
@@ -88,7 +88,7 @@ list-lines key b s (w ∷ more) =
 -- the nonces of a trace's operations, refused ones included
 unfoldable pub nonces : List ℕ → List (List ℕ)
 nonces [] = []
-nonces (w ∷ more) = cond (is-cut w) (nonces more) (nonce-of (value28 w) ∷ nonces more)
+nonces (w ∷ more) = cond (is-cut w) (nonces more) (nonce-of (low-value w) ∷ nonces more)
 
 unfoldable pub AllDiffer : List (List ℕ) → Type 0
 AllDiffer [] = Unit {0}
@@ -115,7 +115,7 @@ pub record Ruled (key words : List ℕ) : Type 0 where
   pub seen : Seen (bench-setup key) (state-after key words)
   pub outcome : (a : PowersUp) → Last (bench-setup key) (state-after key words) a → Outcome (bench-setup key) (state-after key words) a
   -- and of the power-up of a next word, if its nonce differs too
-  pub next : (w : ℕ) → is-cut w ≡ false → AllDiffer (nonces (words ++ w ∷ [])) → Outcome (bench-setup key) (state-after key words) (powering-up key (value28 w) bench-staging)
+  pub next : (w : ℕ) → is-cut w ≡ false → AllDiffer (nonces (words ++ w ∷ [])) → Outcome (bench-setup key) (state-after key words) (powering-up key (low-value w) bench-staging)
   -- the next word's operation, once it has begun, is stopped at no store
   pub unstopped : (w : ℕ) → is-cut w ≡ false → AllDiffer (nonces (words ++ w ∷ [])) → let b = after key blank-bench words in
       start key (b .ring) (b .fram) (b .session) w bench-staging .answer ≡ Begun → is-stopped (operation key b w .progress) ≡ false

@@ -8,7 +8,7 @@ use lib.ListN.{length, replicate}
 use lib.Dec.{eqb, ltb}
 use Rattle.octets.specs.Limits.{slot-length, part-limit, key-lengths, nonce-length, tag-length, trace-limit}
 use Rattle.octets.specs.Octets.{put, blank, erased, bytes}
-use Rattle.octets.specs.Word.{kind4, value28}
+use Rattle.octets.specs.Word.{top-kind, low-value}
 use Rattle.stops.specs.Stops.{first-of}
 use Rattle.protocol.specs.Types.{Session, Progress, GoingOn, Saved, Restored, Refused, Start, Begun, Stopped, this-firmware}
 use Rattle.protocol.specs.Calls.{Sizes, sizes, From, from-tag, from-session, SaveArguments, Saves, saves, PowersUp}
@@ -74,9 +74,9 @@ module _ (key ring fram : List ℕ) where
   -- the start that a word names
   unfoldable pub start : Option Session → ℕ → List ℕ → Begin
   start session w staging =
-      cond (eqb (kind4 w) 1) (save this-firmware ring fram (saving key (value28 w) staging zero-tag))
-      (cond (eqb (kind4 w) 2) (save-with session (value28 w) staging)
-      (power-up this-firmware ring fram (powering-up key (value28 w) staging)))
+      cond (eqb (top-kind w) 1) (save this-firmware ring fram (saving key (low-value w) staging zero-tag))
+      (cond (eqb (top-kind w) 2) (save-with session (low-value w) staging)
+      (power-up this-firmware ring fram (powering-up key (low-value w) staging)))
 
 -- a start before its first store
 unfoldable pub started : (ring fram : List ℕ) → Begin → Moved
@@ -133,7 +133,7 @@ unfoldable pub cut-set : Bench → ℕ → Bench
 cut-set b n = record { ring = b .ring; fram = b .fram; session = b .session; cut = some n }
 
 unfoldable pub step : (key : List ℕ) → Bench → ℕ → Bench
-step key b w = cond (is-cut w) (cut-set b (value28 w)) (operated key b w)
+step key b w = cond (is-cut w) (cut-set b (low-value w)) (operated key b w)
 
 unfoldable pub after : (key : List ℕ) → Bench → List ℕ → Bench
 after key b [] = b

@@ -11,10 +11,10 @@ use keeper::no_job;
 use keeper::power_up;
 use octets::blank;
 use octets::copy_at;
-use octets::kind4;
 use octets::limits::PART_LIMIT;
 use octets::limits::TAG_LENGTH;
-use octets::value28;
+use octets::low_value;
+use octets::top_kind;
 use octets::word_bytes;
 use stops::Stop;
 use trace_words::FIRST_SAVE;
@@ -136,11 +136,11 @@ pub(crate) fn start(
 ) -> Started
     ensures { λ r. ⌜ Starts r (now (staging .exit)) (start (now (key .entry)) (now (ring .entry)) (now (fram .entry)) (view-held held) w (now (staging .entry))) ⌝ }
 {
-    if kind4(w) == FIRST_SAVE {
-        return start_first(key, value28(w), ring, fram, staging);
+    if top_kind(w) == FIRST_SAVE {
+        return start_first(key, low_value(w), ring, fram, staging);
     }
-    if kind4(w) == SAVE {
-        return start_next(key, held, value28(w), ring, fram, staging);
+    if top_kind(w) == SAVE {
+        return start_next(key, held, low_value(w), ring, fram, staging);
     }
-    start_power_up(key, value28(w), ring, fram, staging)
+    start_power_up(key, low_value(w), ring, fram, staging)
 }

@@ -10,7 +10,7 @@ use keeper::Start;
 use keeper::Started;
 use keeper::no_session;
 use octets::copy_at;
-use octets::value28;
+use octets::low_value;
 use ring_line::Line;
 use ring_line::refused_line;
 use ring_line::ring_line;
@@ -229,7 +229,7 @@ impl Unit {
     {
         if is_cut(w) {
             return Step {
-                unit: self.with_cut(value28(w) as usize),
+                unit: self.with_cut(low_value(w) as usize),
                 end: at,
             };
         }

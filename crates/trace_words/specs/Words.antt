@@ -5,14 +5,14 @@ use mathlib.Core.List.{List, [], _∷_}
 use lib.ListN.{length}
 use lib.Dec.{eqb, ltb}
 use Rattle.octets.specs.Limits.{trace-limit}
-use Rattle.octets.specs.Word.{word-at, kind4}
+use Rattle.octets.specs.Word.{word-at, top-kind}
 
 -- kinds: 1 first save, 2 save, 3 power-up, 4 cut
 abbrev pub is-cut : ℕ → Bool
-is-cut w = eqb (kind4 w) 4
+is-cut w = eqb (top-kind w) 4
 
 abbrev pub is-operation : ℕ → Bool
-is-operation w = ltb 0 (kind4 w) && ltb (kind4 w) 4
+is-operation w = ltb 0 (top-kind w) && ltb (top-kind w) 4
 
 -- n words, from word k on
 unfoldable pub words-from : List ℕ → ℕ → ℕ → List ℕ

@@ -1,6 +1,6 @@
 // The words of a recorded bench trace, and which traces are run (document 02, A.4).
-use octets::kind4;
 use octets::limits::TRACE_LIMIT;
+use octets::top_kind;
 use octets::word_at;
 ghost use mathlib.Core.Path.{_≡_};
 ghost use mathlib.Core.Bool.{false};
@@ -16,7 +16,7 @@ pub const CUT: u32 = 4;
 pub fn is_cut(w: u32) -> bool
     ensures { λ r. ⌜ r ≡ is-cut w ⌝ }
 {
-    kind4(w) == CUT
+    top_kind(w) == CUT
 }
 
 // Whether a word is wrong; `after_cut` says whether the word before it is a cut.
@@ -26,7 +26,7 @@ fn word_wrong(after_cut: bool, w: u32) -> bool
     if is_cut(w) {
         return after_cut;
     }
-    let k = kind4(w);
+    let k = top_kind(w);
     !((0 < k) & (k < CUT))
 }
 

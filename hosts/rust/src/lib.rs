@@ -29,8 +29,8 @@
 //! [`hex_export`] and [`hex_import`] carry an image of either memory to a programmer and back, as Intel HEX;
 //! [`ring_shape`] makes every shape of a readable ring of a small size, for trying units at the bench; [`factory_check`]
 //! accepts exactly the memories that a first save leaves, for checking what an assembly house programs; [`chain_order`]
-//! tells in which order dumps of checkpoints were made. [`settings_read`] and [`settings_write`] are for units that keep volume
-//! and alert delay in the open part.
+//! tells in which order dumps of checkpoints were made. [`settings_read`] and [`settings_write`] are for units that keep
+//! volume and alert delay in the open part.
 //!
 //! The code behind these calls is proved. This crate hands slices on as they are, and has no checks of its own.
 //!
@@ -520,7 +520,7 @@ pub struct Settings {
 }
 
 /// The kind of the first word of a list of settings, whose value is the list's version, 1 or 2.
-pub const VERSION: u32 = 15;
+pub const LIST_VERSION: u32 = 15;
 /// The kind of the volume.
 pub const VOLUME: u32 = 1;
 /// The kind of the alert delay.
@@ -529,7 +529,7 @@ pub const ALERT_DELAY: u32 = 2;
 /// Volume and alert delay of a list of settings, which is a checkpoint's whole open part.
 ///
 /// A list is words of 4 bytes, the most significant first, each with its kind in the top four bits and its value in the
-/// other 28. The first has kind [`VERSION`]. Behind it kinds rise: [`VOLUME`] and [`ALERT_DELAY`], and in version 2 any of
+/// other 28. The first has kind [`LIST_VERSION`]. Behind it kinds rise: [`VOLUME`] and [`ALERT_DELAY`], and in version 2 any of
 /// kinds 3 to 14, with any value.
 ///
 /// # Errors
@@ -560,7 +560,7 @@ pub const ALERT_DELAY: u32 = 2;
 /// let key = [7; 32];
 ///
 /// // A list of version 2: volume 3, a delay of 30 seconds, and a setting of kind 7 that this firmware does not know.
-/// let words = [VERSION << 28 | 2, VOLUME << 28 | 3, ALERT_DELAY << 28 | 30, 7 << 28 | 4711];
+/// let words = [LIST_VERSION << 28 | 2, VOLUME << 28 | 3, ALERT_DELAY << 28 | 30, 7 << 28 | 4711];
 /// let list: Vec<u8> = words.into_iter().flat_map(u32::to_be_bytes).collect();
 /// let first = Follows::StartingTag(&[9; 16]);
 /// let job = save(sizes, &ring, &fram, &key, &[1; 12], first, 0, &list, b"timer 00", &mut staging)?;
@@ -601,7 +601,7 @@ pub fn settings_read(list: &[u8]) -> Result<Settings, Stop> {
     Ok(Settings { volume, delay })
 }
 
-/// Changes the value of one setting where it stands in a list, and no other word. A list that was read before is read after.
+/// Changes the value of one setting where it stands in a list, and no other word. The list can still be read afterwards.
 ///
 /// A setting that is not in the list cannot be written, and a list with a stop is not mended by a write.
 ///

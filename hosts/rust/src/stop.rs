@@ -56,11 +56,11 @@ pub enum Stop {
     NoOrder,
     /// 23: a list of settings is not whole words, or its first word is absent or not kind 15 with value 1 or 2.
     BadList,
-    /// 24: a kind is missing, not the version's or not above the one before; of [`settings_write`](crate::settings_write),
-    /// also kind 15, or one that is not in the list.
+    /// 24: kind 1 or 2 is missing from a list of settings, or a kind is not the version's or does not rise; of
+    /// [`settings_write`](crate::settings_write), also kind 15, or one that is not in the list.
     BadKinds,
-    /// 25: a volume above 15, or a delay not of 5 to 300 seconds; of [`settings_write`](crate::settings_write), also the new
-    /// value out of the kind's range.
+    /// 25: a volume above 15, or a delay not of 5 to 300 seconds, in a list of settings; of
+    /// [`settings_write`](crate::settings_write), also the new value so, or above 2^28 − 1.
     BadValue,
     /// 26: the number is past the last ring of that size.
     PastLastShape = 26,
@@ -146,7 +146,9 @@ impl Stop {
             Stop::BadEntries => "no entries, more than 64, or a broken one",
             Stop::NoOrder => "no chain order",
             Stop::BadList => "list of settings not whole words, or its first word absent or wrong",
-            Stop::BadKinds => "kinds of settings missing, not the version's or not rising; or none to be written",
+            Stop::BadKinds => {
+                "a kind of setting missing, not the version's or not rising; or to write kind 15 or one not in the list"
+            }
             Stop::BadValue => "value of a setting out of range",
             Stop::PastLastShape => "number past the last ring of that size",
         }

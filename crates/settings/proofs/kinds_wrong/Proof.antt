@@ -7,7 +7,7 @@ use lib.Dec.{eqb}
 use borrow.Author.Needs.{needs}
 use Rattle.octets.proofs.Search.{NoneBefore, none-yet, none-more, some-stops, some-ends}
 use Rattle.settings.specs.Settings.{count, kind-wrong}
-use Rattle.settings.proofs.Laws.{whole, first-right, rises, kinds-found-wrong, kinds-not-front, front-tested}
+use Rattle.settings.proofs.Laws.{first-right, none-first, rises, kinds-found-wrong, kinds-not-front, front-tested}
 use Rattle.settings.proofs.kinds_wrong.Statement.{statement}
 use Rattle.settings.proofs.kinds_wrong.Tie as tie
 
@@ -20,7 +20,7 @@ abbrev μ-loop : tie.MeasureT-loop
 loop-holds : tie.Need-loop-holds Inv-loop μ-loop
 loop-holds c =
     let L = c .before .args .list .now in
-    (omega arith, omega (arith, whole L (search needs) .some), none-more (kind-wrong L) 0 (none-yet (kind-wrong L)) (first-right L))
+    (omega arith, omega (arith, first-right L (search needs) .there), none-more (kind-wrong L) 0 (none-yet (kind-wrong L)) (none-first L))
 
 returns : tie.Need-returns Inv-loop μ-loop
 returns c =
@@ -40,7 +40,7 @@ returns-2 c =
     let start = loop .before .before in
     let L = start .args .list .now in
     let right = some-ends (count L) (kind-wrong L) (loop .loop .i) (loop .loop .inv .2) (omega arith) in
-    sym (kinds-not-front L (whole L (search needs)) (rises L right) (λ f. omega (arith, f .long, c .if2 .taken)))
+    sym (kinds-not-front L (first-right L (search needs)) (rises L right) (λ f. omega (arith, f .long, c .if2 .taken)))
 
 returns-3 : tie.Need-returns-3 Inv-loop μ-loop
 returns-3 c =
@@ -49,7 +49,7 @@ returns-3 c =
     let right = some-ends (count L) (kind-wrong L) (loop .loop .i) (loop .loop .inv .2) (omega arith) in
     let one = c .before .kind-at .ensures .0 in
     let two = c .kind-at2 .ensures .0 in
-    (λ j. not (eqb (one j) 1) || not (eqb (two j) 2)) ∙ front-tested L (whole L (search needs)) right (omega arith)
+    (λ j. not (eqb (one j) 1) || not (eqb (two j) 2)) ∙ front-tested L (first-right L (search needs)) right (omega arith)
 
 pub kinds-wrong-spec : {M : Type 1} → statement M
 kinds-wrong-spec =

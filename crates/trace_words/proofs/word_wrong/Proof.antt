@@ -14,7 +14,7 @@ returns c = cut-wrong _ (c .before .before .args .w) (sym (c .before .is-cut .en
 returns-2 : tie.Need-returns-2
 returns-2 c =
     let test = c .before .before in
-    ap (λ (k : ℕ). not (ltb 0 k && ltb k 4)) (c .kind4 .ensures .0) ∙ operation-wrong _ (test .before .args .w) (sym (test .is-cut .ensures) ∙ c .before .if1 .left)
+    ap (λ (k : ℕ). not (ltb 0 k && ltb k 4)) (c .top-kind .ensures .0) ∙ operation-wrong _ (test .before .args .w) (sym (test .is-cut .ensures) ∙ c .before .if1 .left)
 
 pub word-wrong-spec : {M : Type 1} → statement M
 word-wrong-spec = tie.close (tie.spec (λ c κs. search needs) returns (λ c κs. search needs) returns-2)

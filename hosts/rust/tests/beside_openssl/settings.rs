@@ -1,11 +1,12 @@
 //! Document 02, A.12: volume and alert delay "ride in the open part as words with the kind in the top four bits and the value
 //! in the other 28". Which lists are read and what a write leaves is worked out here from the request's words, word by word.
 
-use crate::by_hand::{answer, finished, lent, made, started};
+use crate::by_hand::{answer, lent, made, started};
+use crate::layout::{Checkpoint, Form};
 use crate::operations::{Lent, Operation, DONE, GOING_ON, SAVED};
 use crate::program::{output, program};
 use crate::random::Random;
-use godwitshelf::{calls, settings_read, settings_write, Settings, Stop, ALERT_DELAY, VERSION, VOLUME};
+use godwitshelf::{calls, settings_read, settings_write, Settings, Stop, ALERT_DELAY, LIST_VERSION, VOLUME};
 use std::collections::BTreeMap;
 use std::fs;
 use std::io::Write as _;
@@ -238,7 +239,7 @@ fn every_value() {
     assert_eq!(written(ALERT_DELAY, 5).map(|settings| settings.delay), Ok(5));
     assert_eq!(written(ALERT_DELAY, 300).map(|settings| settings.delay), Ok(300));
     assert_eq!(written(ALERT_DELAY, 301), Err(VALUE));
-    assert_eq!(written(VERSION, 1), Err(KINDS));
+    assert_eq!(written(LIST_VERSION, 1), Err(KINDS));
     assert_eq!(write(&full, 14, LARGEST).map(|list| words_of(&list)[14]), Ok((14, LARGEST)));
     assert_eq!(write(&full, 14, LARGEST + 1), Err(VALUE));
 }
@@ -363,7 +364,21 @@ fn looked_up(unit: &Lent) -> Vec<u8> {
     copy.fram[copy.open_start..copy.open_start + copy.open_len].to_vec()
 }
 
-/// Cut after each store of a save with another volume, and of the power-up that follows; then the volume is changed once more.
+/// A unit that is cut now resumes with this list; its volume is changed and saved.
+fn resumes_with(unit: &Lent, list: &[u8]) {
+    assert_eq!(looked_up(unit), list);
+    let mut restarted = unit.clone();
+    made(Operation::PowerUp, &mut restarted, 0);
+    assert_eq!(looked_up(&restarted), list);
+    let changed = write(&looked_up(&restarted), VOLUME, 9).unwrap();
+    restarted.open_part = changed.clone();
+    made(Operation::Save, &mut restarted, 3);
+    assert_eq!(looked_up(&restarted), changed);
+    assert_eq!(read(&changed), Ok(Settings { volume: 9, ..read(list).unwrap() }));
+    assert_eq!((&changed[..4], &changed[8..]), (&list[..4], &list[8..]));
+}
+
+/// Cut before and after each store of a save with another volume.
 fn saved_cut_looked_up_and_changed(key_length: usize) {
     let mut random = Random::new(38);
     for set in [0, 1, 0b1000_0001_0000, 0xFFF] {
@@ -374,37 +389,15 @@ fn saved_cut_looked_up_and_changed(key_length: usize) {
         made(Operation::FirstSave, &mut unit, 1);
         unit.open_part = louder.clone();
         assert_eq!(started(Operation::Save, &mut unit, 2), DONE);
-        for stores in 0.. {
-            let recorded = unit.ring[16..32].iter().any(|byte| *byte != 0xFF);
-            assert_eq!(recorded, stores > unit.fram.len().min((48 + list.len() + 4) / 4));
-            let newest = if recorded { &louder } else { &list };
-            assert_eq!(looked_up(&unit), *newest, "cut after {stores} stores");
-            let mut restarted = unit.clone();
-            made(Operation::PowerUp, &mut restarted, 0);
-            assert_eq!(looked_up(&restarted), *newest);
-            let changed = write(&looked_up(&restarted), VOLUME, 9).unwrap();
-            restarted.open_part = changed.clone();
-            made(Operation::Save, &mut restarted, 3);
-            assert_eq!(looked_up(&restarted), changed);
-            assert_eq!(read(&changed), Ok(Settings { volume: 9, ..read(&list).unwrap() }));
-            assert_eq!(changed[12..], list[12..]);
-            match answer(Operation::Advance, &mut unit) {
-                GOING_ON => (),
-                last => {
-                    assert_eq!(last, SAVED);
-                    break;
-                }
-            }
+        resumes_with(&unit, &list);
+        // The words of the checkpoint, and then the record.
+        for _ in 0..(48 + list.len() + unit.secret.len()) / 4 {
+            assert_eq!(answer(Operation::Advance, &mut unit), GOING_ON);
+            resumes_with(&unit, &list);
         }
-        assert_eq!(looked_up(&unit), louder);
-        finished_again(&unit);
+        assert_eq!(answer(Operation::Advance, &mut unit), SAVED);
+        resumes_with(&unit, &louder);
     }
-}
-
-/// A job that is done goes no further.
-fn finished_again(unit: &Lent) {
-    let mut copy = unit.clone();
-    assert_eq!(answer(Operation::Advance, &mut copy), 14);
 }
 
 // The program.
@@ -444,6 +437,44 @@ fn the_program() {
     list.resize(32_768, 0xE0);
     assert_eq!(viewed(&list, 4096), "refused 24\n");
     assert_eq!(viewed(&list[..32_767], 4096), "refused 23\n");
+}
+
+/// README's line for the bench, on the FRAM of a unit, and of one with an older checkpoint.
+#[test]
+fn a_list_cut_out_of_a_dump() {
+    let folder = Path::new(env!("CARGO_TARGET_TMPDIR")).join("settings");
+    fs::create_dir_all(&folder).unwrap();
+    let shell = |line: &str, fram: &[u8]| {
+        fs::write(folder.join("fram.bin"), fram).unwrap();
+        let mut command = Command::new("sh");
+        let path = format!("{}:{}", program("").display(), std::env::var("PATH").unwrap());
+        command.args(["-c", line]).current_dir(&folder).env("PATH", path);
+        output(command, &[], 1)
+    };
+    let readme = fs::read_to_string(Path::new(env!("CARGO_MANIFEST_DIR")).join("../../README.md")).unwrap();
+    let line = readme.lines().map(str::trim).find(|line| line.ends_with("of three words")).unwrap();
+    let line = line.split("      ").next().unwrap().replace("target/bin/", "");
+    let list = bytes_of(&[(15, 1), (1, 3), (2, 30)]);
+    let shown = "version 1\nvolume 3\nalert delay 30 s\n";
+    let mut unit = lent(32, 3, 2, 128);
+    unit.open_part = list.clone();
+    made(Operation::FirstSave, &mut unit, 1);
+    assert_eq!(shell(&line, &unit.fram), shown);
+    assert!(shown.lines().all(|line| readme.contains(&format!("`{line}`"))));
+    assert_eq!(unit.fram[1..4], [0, 0, 3]);
+    let older = Checkpoint {
+        form: Form::Older,
+        packet: 0,
+        open_part: list,
+        secret: vec![7; 4],
+        restarts: 0,
+        previous_tag: [9; 16],
+        nonce: [1; 12],
+    };
+    let sealed = older.sealed(&[5; 32]);
+    assert_eq!(shell(&line, &sealed), "refused 23\n");
+    assert_eq!(shell(&line.replace("+33", "+29"), &sealed), shown);
+    assert!(readme.contains("`tail -c +29`") && sealed[1..4] == [0, 0, 3]);
 }
 
 /// The list that the gate runs the program on.

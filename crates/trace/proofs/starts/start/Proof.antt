@@ -11,7 +11,7 @@ returns c =
     let valued = called .before .before in
     let test = valued .before .before in
     let a = test .before .before .before .before .before .args in
-    starts-first _ _ _ (a .held) (a .w) _ _ _ _ (valued .value28 .ensures .0) (sym (test .kind4 .ensures .0) ∙ valued .before .if1 .taken) (called .start-first .ensures)
+    starts-first _ _ _ (a .held) (a .w) _ _ _ _ (valued .low-value .ensures .0) (sym (test .top-kind .ensures .0) ∙ valued .before .if1 .taken) (called .start-first .ensures)
 
 returns-2 : tie.Need-returns-2
 returns-2 c =
@@ -20,8 +20,8 @@ returns-2 c =
     let again = valued .before .before in
     let test = again .before .before in
     let a = test .before .before .before .before .before .args in
-    starts-next _ _ _ (a .held) (a .w) _ _ _ _ (valued .value282 .ensures .0) (λ e. again .before .if1 .left (test .kind4 .ensures .0 ∙ e))
-    (sym (again .kind42 .ensures .0) ∙ valued .before .if2 .taken) (called .start-next .ensures)
+    starts-next _ _ _ (a .held) (a .w) _ _ _ _ (valued .low-value2 .ensures .0) (λ e. again .before .if1 .left (test .top-kind .ensures .0 ∙ e))
+    (sym (again .top-kind2 .ensures .0) ∙ valued .before .if2 .taken) (called .start-next .ensures)
 
 returns-3 : tie.Need-returns-3
 returns-3 c =
@@ -30,8 +30,8 @@ returns-3 c =
     let again = valued .before .before in
     let test = again .before .before in
     let a = test .before .before .before .before .before .args in
-    starts-power-up _ _ _ (a .held) (a .w) _ _ _ _ (valued .value283 .ensures .0) (λ e. again .before .if1 .left (test .kind4 .ensures .0 ∙ e))
-    (λ e. valued .before .if2 .left (again .kind42 .ensures .0 ∙ e)) (called .start-power-up .ensures)
+    starts-power-up _ _ _ (a .held) (a .w) _ _ _ _ (valued .low-value3 .ensures .0) (λ e. again .before .if1 .left (test .top-kind .ensures .0 ∙ e))
+    (λ e. valued .before .if2 .left (again .top-kind2 .ensures .0 ∙ e)) (called .start-power-up .ensures)
 
 pub start-spec : {M : Type 1} → statement M
 start-spec =

@@ -9,7 +9,7 @@ returns : tie.Need-returns
 returns c =
     let test = c .before .before in
     let a = test .before .before .before .before .before .before .args in
-    stepped-cut _ (a .self) _ (a .w) _ _ _ _ _ (sym (test .before .is-cut .ensures) ∙ test .if1 .taken) (c .before .value28 .ensures .0) (c .with-cut .ensures)
+    stepped-cut _ (a .self) _ (a .w) _ _ _ _ _ (sym (test .before .is-cut .ensures) ∙ test .if1 .taken) (c .before .low-value .ensures .0) (c .with-cut .ensures)
 
 returns-2 : tie.Need-returns-2
 returns-2 c =
