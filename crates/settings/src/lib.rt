@@ -168,12 +168,8 @@ pub fn settings_write(list: &mut [u8], kind: u32, value: u32) -> Check
     ensures { λ r. ⌜ written-as r (now (list .exit)) ≡ settings-write (now (list .entry)) kind value ⌝ }
 {
     let at = place(list, kind);
-    let missing = at == list.len() / 4;
-    let check = check(
-        list,
-        (kind == LIST_VERSION) | missing,
-        value_wrong(kind, value),
-    );
+    let kind_refused = (kind == LIST_VERSION) | (at == list.len() / 4);
+    let check = check(list, kind_refused, value_wrong(kind, value));
     match check {
         Check::Stopped(stop) => Check::Stopped(stop),
         Check::Pass => {

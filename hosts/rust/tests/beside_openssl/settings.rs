@@ -461,7 +461,7 @@ fn a_list_cut_out_of_a_dump() {
     made(Operation::FirstSave, &mut unit, 1);
     assert_eq!(shell(&line, &unit.fram), shown);
     assert!(shown.lines().all(|line| readme.contains(&format!("`{line}`"))));
-    assert_eq!(unit.fram[1..4], [0, 0, 3]);
+    assert_eq!(unit.fram[5..8], [0, 0, 3]);
     let older = Checkpoint {
         form: Form::Older,
         packet: 0,
