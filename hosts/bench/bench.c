@@ -1,7 +1,7 @@
 /*
  * Times the keeper's calls, its sealing and opening beside BearSSL, mbedTLS and OpenSSL, its Intel HEX beside binutils and SRecord,
- * and its chains of dumps and lists of settings beside the same in C; measures the stack that its calls use; and writes docs/PERFORMANCE.md. hosts/bench/run.sh
- * builds and runs it:
+ * and its chains of dumps and lists of settings beside the same in C; measures the stack that its calls use; and writes
+ * docs/PERFORMANCE.md. hosts/bench/run.sh builds and runs it:
  * bench PAGE FACTS SIZES SYMBOLS PROGRAMS FOLDER
  */
 #define _GNU_SOURCE
@@ -851,12 +851,12 @@ static void time_settings(int round)
         for (size_t s = 0; s < COUNT(setters); s++) {
             uint8_t left[sizeof list];
             fill_list(list_words[n]);
-            read_volume = read_delay = 0;
             need(setters[s & ~(size_t)1].call() == 0, "a list was refused");
             memcpy(left, list, sizeof list);
-            need(s > 1 || (read_volume == 3 && read_delay == 30), "another volume or delay");
             fill_list(list_words[n]);
+            read_volume = read_delay = 0;
             need(setters[s].call() == 0 && memcmp(left, list, sizeof list) == 0, "another list");
+            need(s > 1 || (read_volume == 3 && read_delay == 30), "another volume or delay");
             for (int tries = 0; tries < TRIES; tries++) {
                 preempted();
                 double once = answer_time(setters[s].call, 0, 3);
@@ -1163,8 +1163,8 @@ static void print_chains(void)
 static void print_settings(void)
 {
     out("\n## Settings\n\n"
-        "Nanoseconds, best · median · **ratio of the best to ours**. Turns as for sealing; in each round, before the clock starts, both must leave\n"
-        "the same list. The list of three words is of version 1, the others are of version 2.\n\n"
+        "Nanoseconds, best · median · **ratio of the best to ours**. Turns as for sealing; in each round, before the clock starts, both must give\n"
+        "the same volume and delay, or leave the same list. The list of three words is of version 1, the others are of version 2.\n\n"
         "| words |");
     for (size_t n = 0; n < COUNT(list_words); n++)
         out(" %zu |", list_words[n]);

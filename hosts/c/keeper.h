@@ -119,7 +119,7 @@ enum keeper_size {
 enum keeper_kind {
     KEEPER_VOLUME = 1,              /* 0 to 15 */
     KEEPER_ALERT_DELAY = 2,         /* 5 to 300 seconds */
-    KEEPER_LIST_VERSION = 15             /* the first word's: 1 or 2 */
+    KEEPER_LIST_VERSION = 15        /* the first word's: 1 or 2 */
 };
 
 /* The largest packet number: 2^30 - 1. */
@@ -250,9 +250,9 @@ uint32_t keeper_factory_check(size_t pages, size_t slots, const uint8_t *ring, s
 /* Settings in the open part. A list is the whole part: words of 4 bytes, the most significant first, each with its kind in the top four bits
  * and its value in the other 28. The first word has kind 15 and the list's version, 1 or 2. Then kinds rise: 1, the volume, 0 to 15; 2, the
  * alert delay, 5 to 300 seconds; in version 2 also any of 3 to 14, with any value. keeper_settings_read hands out volume and delay of a list
- * of either version. keeper_settings_write changes the value of one setting where it stands, and no other word; the list can still be read. keeper_look finds the
- * list of the newest checkpoint; copy it out of the FRAM image, write to the copy, and save that.
- * A setting that is not in the list cannot be written, and a list with a stop is not mended by a write.
+ * of either version. keeper_settings_write changes the value of one setting where it stands, and no other word; the list can still be read.
+ * keeper_look finds the list of the newest checkpoint; copy it out of the FRAM image, write to the copy, and save that. A setting that is not
+ * in the list cannot be written, and a list with a stop is not mended by a write.
  * Stops: 23, 24, 25. Cost: one pass over the list, write two.
  */
 uint32_t keeper_settings_read(const uint8_t *list, size_t list_len, uint32_t *volume, uint32_t *delay);

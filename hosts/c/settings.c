@@ -11,7 +11,8 @@ static const uint8_t key[KEEPER_KEY_SIZE_256] = {7};
 static uint8_t ring[KEEPER_SLOT_SIZE * PAGES * SLOTS], fram[FRAM_SIZE], staging[FRAM_SIZE / 2], state[KEEPER_STATE_SIZE];
 static uint8_t job[KEEPER_JOB_SIZE], session[KEEPER_SESSION_SIZE];
 
-/* Starts a save of the list that follows these bytes. On a unit the random generator makes each nonce. */
+/* Starts a save of the list, after a starting tag or a session; `number` serves for nonce and packet number. On a unit the random generator
+ * makes each nonce. */
 static uint32_t save(const uint8_t *from, size_t from_len, uint8_t number, const uint8_t *list, size_t list_len)
 {
     static const uint8_t timer[4] = {'0', ':', '0', '0'};
@@ -30,7 +31,8 @@ static uint32_t store(int stores)
     return answer;
 }
 
-/* Looks the list up in the FRAM and copies it out. The secret part stays sealed. */
+/* Looks the list up in the FRAM and copies it out; answers its length. The secret part stays sealed. On 23 to 25 the open part is no list of
+ * this kind: a unit takes its defaults then, and makes a new one. */
 static size_t look_up(const char *when, uint8_t *list, size_t room)
 {
     uint32_t restarts = 0, volume = 0, delay = 0;
@@ -39,7 +41,9 @@ static size_t look_up(const char *when, uint8_t *list, size_t room)
     if (answer != KEEPER_DONE || len > room)
         return 0;
     answer = keeper_settings_read(fram + start, len, &volume, &delay);
-    printf("%s: %u, volume %u, delay %u s, %u words, the last", when, (unsigned)answer, (unsigned)volume, (unsigned)delay, (unsigned)(len / 4));
+    if (answer != KEEPER_DONE)
+        return 0;
+    printf("%s: volume %u, delay %u s, %u words, the last", when, (unsigned)volume, (unsigned)delay, (unsigned)(len / 4));
     for (size_t i = len - 4; i < len; i++)
         printf(" %02x", fram[start + i]);
     printf("\n");

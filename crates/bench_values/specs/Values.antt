@@ -508,12 +508,14 @@ lists-written =
     (write-stops newer-list 7 268435455, stops none) ∷
     (write-stops newer-list 7 268435456, stops (some 25)) ∷
     (write-stops newer-list 2 301, stops (some 25)) ∷
+    (write-stops newer-list 2 4, stops (some 25)) ∷
     (write-stops newer-list 1 16, stops (some 25)) ∷
     (write-stops newer-list 15 1, stops (some 24)) ∷
     (write-stops newer-list 3 0, stops (some 24)) ∷
     (write-stops newer-list 17 3, stops (some 24)) ∷
     (write-stops (top-word 15 1 ++ top-word 1 16 ++ top-word 2 30) 1 3, stops (some 25)) ∷
     (write-stops (top-word 15 1 ++ top-word 1 16 ++ top-word 2 30) 3 0, stops (some 24)) ∷
+    (write-stops (top-word 15 1 ++ top-word 2 30 ++ top-word 1 3) 1 16, stops (some 24)) ∷
     (write-stops (0 ∷ older-list) 15 0, stops (some 23)) ∷
     (writes (top-word 15 1 ++ top-word 1 16 ++ top-word 2 30) 1 3, holds (top-word 15 1 ++ top-word 1 16 ++ top-word 2 30)) ∷ []
 

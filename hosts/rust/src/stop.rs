@@ -147,7 +147,7 @@ impl Stop {
             Stop::NoOrder => "no chain order",
             Stop::BadList => "list of settings not whole words, or its first word absent or wrong",
             Stop::BadKinds => {
-                "a kind of setting missing, not the version's or not rising; or to write kind 15 or one not in the list"
+                "a kind of setting missing, not the version's or not rising; or the kind to be written is 15 or not in the list"
             }
             Stop::BadValue => "value of a setting out of range",
             Stop::PastLastShape => "number past the last ring of that size",

@@ -254,7 +254,7 @@ fn every_length() {
         let whole = list.len();
         // Words of kind 1, which no list goes on with.
         list.resize(whole + 40, 0x11);
-        for length in 0..list.len() {
+        for length in 0..=list.len() {
             let taken = compared(&list[..length]);
             assert_eq!(taken, length % 4 == 0 && (12..=whole).contains(&length), "{length} bytes");
             assert_eq!(compared_write(&list[..length], VOLUME, 3), taken);
@@ -289,6 +289,7 @@ fn every_bit() {
 fn damaged_lists() {
     let mut random = Random::new(36);
     let mut answers = BTreeMap::new();
+    let values = values();
     for _ in 0..100_000 {
         let version = 1 + random.below(2) as u32;
         let set = if version == 2 { random.below(1 << 12) as u32 } else { 0 };
@@ -310,7 +311,7 @@ fn damaged_lists() {
             list.truncate(random.below(list.len() + 1));
         }
         compared(&list);
-        let (kind, value) = (random.below(17) as u32, random.pick(&values()));
+        let (kind, value) = (random.below(17) as u32, random.pick(&values));
         compared_write(&list, kind, value);
         let of_list = expected(&list).err();
         let of_write = (kind == 15 || words_of(&list).iter().all(|word| word.0 != kind), !in_range(kind, value));
@@ -452,8 +453,11 @@ fn a_list_cut_out_of_a_dump() {
         output(command, &[], 1)
     };
     let readme = fs::read_to_string(Path::new(env!("CARGO_MANIFEST_DIR")).join("../../README.md")).unwrap();
-    let line = readme.lines().map(str::trim).find(|line| line.ends_with("of three words")).unwrap();
-    let line = line.split("      ").next().unwrap().replace("target/bin/", "");
+    let of_readme = |end: &str| {
+        let line = readme.lines().map(str::trim).find(|line| line.ends_with(end)).unwrap();
+        line.split("      ").next().unwrap().replace("target/bin/", "")
+    };
+    let line = of_readme("in half A, of three words");
     let list = bytes_of(&[(15, 1), (1, 3), (2, 30)]);
     let shown = "version 1\nvolume 3\nalert delay 30 s\n";
     let mut unit = lent(32, 3, 2, 128);
@@ -462,6 +466,13 @@ fn a_list_cut_out_of_a_dump() {
     assert_eq!(shell(&line, &unit.fram), shown);
     assert!(shown.lines().all(|line| readme.contains(&format!("`{line}`"))));
     assert_eq!(unit.fram[5..8], [0, 0, 3]);
+    unit.open_part = write(&list, VOLUME, 4).unwrap();
+    made(Operation::Save, &mut unit, 2);
+    assert_eq!(shell(&line, &unit.fram), shown);
+    assert_eq!(
+        shell(&of_readme("of one in half B, in a FRAM of 128 bytes"), &unit.fram),
+        shown.replace('3', "4").replace("40", "30")
+    );
     let older = Checkpoint {
         form: Form::Older,
         packet: 0,
