@@ -10,7 +10,7 @@ use lib.ListN.{length}
 use lib.Dec.{eqb, leb, ltb}
 use borrow.Author.Tests.{eqb-true, eqb-false, eq-eqb, ne-eqb, ltb-false, lt-ltb, leb-false, not-false}
 use Rattle.octets.specs.Search.{some-below}
-use Rattle.octets.proofs.Search.{NoneBefore, found, none-below, ends, only-one}
+use Rattle.octets.proofs.Search.{NoneBefore, found, none-below, only-one}
 use Rattle.stops.proofs.Laws.{neither}
 use Rattle.settings.specs.Rules.{FirstRight}
 use Rattle.settings.specs.Settings.{count, kind-at, place, missing, version, last-kind, list-wrong, kind-wrong, kinds-wrong}
@@ -27,11 +27,6 @@ module _ (L : List ℕ) (k : ℕ) where
   unfolding place
   not-missing i h e =
       ne-eqb (place L k) (count L) (λ p. true≢false (sym (eq-eqb (kind-at L i) k e) ∙ found (count L) (kind-test L k) .before i (omega (arith, h, p))))
-
-  -- no word has it
-  pub is-missing : ((i : ℕ) → i < count L → kind-at L i ≡ k → ⊥) → missing L k ≡ true
-  unfolding place
-  is-missing f = eq-eqb (place L k) (count L) (ends (count L) (kind-test L k) (count L) (λ j h. ne-eqb (kind-at L j) k (f j h)) refl)
 
   -- just one has it
   pub placed : (i : ℕ) → i < count L → kind-at L i ≡ k → ((j : ℕ) → j < count L → kind-at L j ≡ k → j ≡ i) → place L k ≡ i

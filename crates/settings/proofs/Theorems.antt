@@ -181,7 +181,7 @@ passed-over L (suc n) i s h =
     let k : 3 ≤ kind-at L i = h i (omega arith) (omega arith) in
     rw (ne-eqb (kind-at L i) 1 (λ e. omega (arith, k, e)), ne-eqb (kind-at L i) 2 (λ e. omega (arith, k, e))) (passed-over L n (suc i) s (λ j a b. h j (omega arith) (omega arith)))
 
-module _ (L : List ℕ) (w : FirstRight L) (r : Rises L) (f : Front L) where
+module _ (L : List ℕ) (r : Rises L) (f : Front L) where
   none-met : Known
   none-met = record { volume = none; delay = none }
 
@@ -203,7 +203,7 @@ unfolding older-read older-by none-met both-met
 older L p =
     let f = p .is-right in
     let k = p .has-kinds in
-    rw (eq-eqb (length L % 4) 0 (omega (arith, f .whole)), ne-eqb (count L) 0 (λ e. omega (arith, f .there, e)), eq-eqb (kind-at L 0) 15 (f .kind), met L f (k .rising) (k .in-front), values-in-front L f k, p .values-right)
+    rw (eq-eqb (length L % 4) 0 (omega (arith, f .whole)), ne-eqb (count L) 0 (λ e. omega (arith, f .there, e)), eq-eqb (kind-at L 0) 15 (f .kind), met L (k .rising) (k .in-front), values-in-front L f k, p .values-right)
 
 pub older-reads : (L : List ℕ) → FirstRight L → (k : KindsRight L) → ValuesRight L k → OlderReads L k
 older-reads L f k v =
@@ -356,20 +356,13 @@ module _ (L : List ℕ) (k v : ℕ) (w : Writes L k v) where
           go (yes h) = ap₂ value-wrong h (ap (setting (changed L k v)) h ∙ back) ∙ f
           go (no n) = ap (value-wrong j) (other j n) ∙ g
 
-  -- of volume and delay
-  volume-after : volume (changed L k v) ≡ cond (eqb k 1) v (volume L)
-  volume-after = go (ℕ-discrete k 1)
+  -- each setting afterwards
+  setting-after : (j : ℕ) → setting (changed L k v) j ≡ cond (eqb k j) v (setting L j)
+  setting-after j = go (ℕ-discrete k j)
     where
-      go : Dec (k ≡ 1) → volume (changed L k v) ≡ cond (eqb k 1) v (volume L)
-      go (yes e) = rw (eq-eqb k 1 e) (ap (setting (changed L k v)) (sym e) ∙ back)
-      go (no n) = rw (ne-eqb k 1 n) (other 1 (λ e. n (sym e)))
-
-  delay-after : delay (changed L k v) ≡ cond (eqb k 2) v (delay L)
-  delay-after = go (ℕ-discrete k 2)
-    where
-      go : Dec (k ≡ 2) → delay (changed L k v) ≡ cond (eqb k 2) v (delay L)
-      go (yes e) = rw (eq-eqb k 2 e) (ap (setting (changed L k v)) (sym e) ∙ back)
-      go (no n) = rw (ne-eqb k 2 n) (other 2 (λ e. n (sym e)))
+      go : Dec (k ≡ j) → setting (changed L k v) j ≡ cond (eqb k j) v (setting L j)
+      go (yes e) = rw (eq-eqb k j e) (ap (setting (changed L k v)) (sym e) ∙ back)
+      go (no n) = rw (ne-eqb k j n) (other j (λ e. n (sym e)))
 
 kept : (L : List ℕ) (k v : ℕ) → write-stop L k v ≡ none → Keeps L k v (changed L k v)
 unfolding write-stop
@@ -385,7 +378,7 @@ kept L k v e =
       volume = volume L;
       delay = delay L;
       before = reads L (passes-all L false false (p .list-right) (p .kinds-right) (p .values-right) refl refl);
-      after = reads (changed L k v) (passes-all (changed L k v) false false l (kinds-kept L k v w (p .kinds-right)) (values-kept L k v w (p .values-right) (p .value-taken)) refl refl) ∙ ap₂ Volume-delay (volume-after L k v w) (delay-after L k v w);
+      after = reads (changed L k v) (passes-all (changed L k v) false false l (kinds-kept L k v w (p .kinds-right)) (values-kept L k v w (p .values-right) (p .value-taken)) refl refl) ∙ ap₂ Volume-delay (setting-after L k v w 1) (setting-after L k v w 2);
     }
 
 write-leaves-changed : (o : Option ℕ) (L : List ℕ) (k v : ℕ) → o ≡ none → changed L k v ≡ written-by o L k v .list

@@ -8,8 +8,9 @@ use crate::firmware::{Firmware, KEEPER};
 use crate::histories::generated;
 use crate::layout::{half_of, number, open_half, read_ring, tag_of, Checkpoint, Form, Reading};
 use crate::operations::{Lent, Operation, DONE, GOING_ON};
-use crate::program::{output, program};
+use crate::program::program;
 use crate::random::Random;
+use crate::running::{output, readme, readme_line, shell};
 use godwitshelf::{calls, chain_order, Stop};
 use std::collections::{BTreeMap, BTreeSet};
 use std::fs;
@@ -519,17 +520,8 @@ fn the_entries_of_the_gate() {
 fn tags_cut_out_of_dumps() {
     let folder = Path::new(env!("CARGO_TARGET_TMPDIR")).join("chain");
     fs::create_dir_all(&folder).unwrap();
-    let shell = |line: &str| {
-        let mut command = Command::new("sh");
-        let path = format!("{}:{}", program("").display(), std::env::var("PATH").unwrap());
-        command.args(["-c", line]).current_dir(&folder).env("PATH", path);
-        output(command, &[], 1)
-    };
-    let readme = fs::read_to_string(Path::new(env!("CARGO_MANIFEST_DIR")).join("../../README.md")).unwrap();
-    let of_readme = |begin: &str| {
-        let line = readme.lines().map(str::trim).find(|line| line.starts_with(begin)).unwrap();
-        line.split("      ").next().unwrap().replace("target/bin/", "")
-    };
+    let run = |line: &str| shell(line, &folder);
+    let of_readme = |begin: &str| readme_line(|line| line.starts_with(begin));
     let key = [5; 32];
     let mut previous = [1; 16];
     let mut chain = Vec::new();
@@ -545,16 +537,16 @@ fn tags_cut_out_of_dumps() {
     fs::write(folder.join("fram1.bin"), &fram).unwrap();
     fram[64..124].copy_from_slice(&chain[2]);
     fs::write(folder.join("fram2.bin"), &fram).unwrap();
-    assert_eq!(shell(&of_readme("head -c 60")), "");
-    assert_eq!(shell(&of_readme("tail -c +65")), "");
+    assert_eq!(run(&of_readme("head -c 60")), "");
+    assert_eq!(run(&of_readme("tail -c +65")), "");
     let sorting = of_readme("for dump in");
-    assert_eq!(shell(&sorting), "1\n0\n");
+    assert_eq!(run(&sorting), "1\n0\n");
     // In the older form the previous tag stands earlier.
     fs::write(folder.join("a.bin"), &chain[1]).unwrap();
     fs::write(folder.join("b.bin"), &chain[0]).unwrap();
-    assert_eq!(shell(&sorting), "refused 22\n");
-    assert_eq!(shell(&sorting.replace("+17", "+13")), "1\n0\n");
-    assert!(readme.contains("(`tail -c +13`)") && chain[1][0] == 0x40 && chain[1].len() == 56);
+    assert_eq!(run(&sorting), "refused 22\n");
+    assert_eq!(run(&sorting.replace("+17", "+13")), "1\n0\n");
+    assert!(readme().contains("(`tail -c +13`)") && chain[1][0] == 0x40 && chain[1].len() == 56);
     // All four.
     let entry = |sealed: &[u8], at: usize| [&sealed[at..at + 16], &tag_of(sealed)[..]].concat();
     let all = [entry(&chain[2], 16), entry(&chain[1], 12), entry(&chain[3], 16), entry(&chain[0], 12)];

@@ -36,6 +36,7 @@ mod packets;
 mod program;
 mod random;
 mod ring_shapes;
+mod running;
 mod seal_open;
 mod settings;
 mod traces;

@@ -4,8 +4,9 @@
 use crate::by_hand::{answer, lent, made, started};
 use crate::layout::{Checkpoint, Form};
 use crate::operations::{Lent, Operation, DONE, GOING_ON, SAVED};
-use crate::program::{output, program};
+use crate::program::program;
 use crate::random::Random;
+use crate::running::{output, readme, readme_line, shell};
 use godwitshelf::{calls, settings_read, settings_write, Settings, Stop, ALERT_DELAY, LIST_VERSION, VOLUME};
 use std::collections::BTreeMap;
 use std::fs;
@@ -445,32 +446,25 @@ fn the_program() {
 fn a_list_cut_out_of_a_dump() {
     let folder = Path::new(env!("CARGO_TARGET_TMPDIR")).join("settings");
     fs::create_dir_all(&folder).unwrap();
-    let shell = |line: &str, fram: &[u8]| {
+    let shown_of = |line: &str, fram: &[u8]| {
         fs::write(folder.join("fram.bin"), fram).unwrap();
-        let mut command = Command::new("sh");
-        let path = format!("{}:{}", program("").display(), std::env::var("PATH").unwrap());
-        command.args(["-c", line]).current_dir(&folder).env("PATH", path);
-        output(command, &[], 1)
+        shell(line, &folder)
     };
-    let readme = fs::read_to_string(Path::new(env!("CARGO_MANIFEST_DIR")).join("../../README.md")).unwrap();
-    let of_readme = |end: &str| {
-        let line = readme.lines().map(str::trim).find(|line| line.ends_with(end)).unwrap();
-        line.split("      ").next().unwrap().replace("target/bin/", "")
-    };
+    let of_readme = |end: &str| readme_line(|line| line.ends_with(end));
     let line = of_readme("in half A, of three words");
     let list = bytes_of(&[(15, 1), (1, 3), (2, 30)]);
     let shown = "version 1\nvolume 3\nalert delay 30 s\n";
     let mut unit = lent(32, 3, 2, 128);
     unit.open_part = list.clone();
     made(Operation::FirstSave, &mut unit, 1);
-    assert_eq!(shell(&line, &unit.fram), shown);
-    assert!(shown.lines().all(|line| readme.contains(&format!("`{line}`"))));
+    assert_eq!(shown_of(&line, &unit.fram), shown);
+    assert!(shown.lines().all(|line| readme().contains(&format!("`{line}`"))));
     assert_eq!(unit.fram[5..8], [0, 0, 3]);
     unit.open_part = write(&list, VOLUME, 4).unwrap();
     made(Operation::Save, &mut unit, 2);
-    assert_eq!(shell(&line, &unit.fram), shown);
+    assert_eq!(shown_of(&line, &unit.fram), shown);
     assert_eq!(
-        shell(&of_readme("of one in half B, in a FRAM of 128 bytes"), &unit.fram),
+        shown_of(&of_readme("of one in half B, in a FRAM of 128 bytes"), &unit.fram),
         shown.replace('3', "4").replace("40", "30")
     );
     let older = Checkpoint {
@@ -483,9 +477,9 @@ fn a_list_cut_out_of_a_dump() {
         nonce: [1; 12],
     };
     let sealed = older.sealed(&[5; 32]);
-    assert_eq!(shell(&line, &sealed), "refused 23\n");
-    assert_eq!(shell(&line.replace("+33", "+29"), &sealed), shown);
-    assert!(readme.contains("`tail -c +29`") && sealed[1..4] == [0, 0, 3]);
+    assert_eq!(shown_of(&line, &sealed), "refused 23\n");
+    assert_eq!(shown_of(&line.replace("+33", "+29"), &sealed), shown);
+    assert!(readme().contains("`tail -c +29`") && sealed[1..4] == [0, 0, 3]);
 }
 
 /// The list that the gate runs the program on.
