@@ -1,4 +1,6 @@
 // The key expansion. A word is four bytes, and the schedule's words stand one after the other in 240 bytes, those past its end 0.
+#![tactic(auto)]
+
 ghost use Rattle.std.specs.Prelude.{◌≡◌, ◌+◌, ◌-◌, ◌*◌, ◌/◌, ◌<◌, ◌≤◌, length};
 ghost use Rattle.std.proofs.lemmas.List.Edits.{sets};
 ghost use Rattle.octets.specs.Table.{table};

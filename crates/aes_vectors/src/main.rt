@@ -1,5 +1,7 @@
 // Runs NIST's known answers for AES-128 and AES-256 and FIPS 197's worked examples of the two, and says how many agree.
 // A line of a file is key, text and cipher in hexadecimal; one that begins with '#' is a comment.
+#![tactic(auto)]
+
 use hex_digits::decode;
 use libc::STDOUT_FILENO;
 use vectors::until;
@@ -55,7 +57,7 @@ fn line_agrees(line: &[u8]) -> bool {
     agrees(&line[..a], &text[..b], cipher)
 }
 
-#[derive(Drop)]
+#[derive(Clone, Copy)]
 struct Tally {
     agree: u32,
     all: u32,

@@ -1,5 +1,7 @@
 // What the bench's programs write: a result to standard output, and why there is none to standard error. And what they read: numbers among their
 // arguments, and files.
+#![tactic(auto)]
+
 ghost use Rattle.std.specs.Prelude.{◌≡◌, ◌+◌, ◌^◌, ◌≤◌, ◌<◌};
 ghost use Rattle.io.specs.Counts.{IsPrefixLen};
 
@@ -10,7 +12,7 @@ use stops::{Stop, stop_number};
 const ARGUMENT_LIMIT: usize = 131_072;
 
 // Whether an argument is a decimal number, and the number, or one more than the most that was asked for if it is larger.
-#[derive(Drop)]
+#[derive(Clone, Copy)]
 pub struct Number {
     pub is_number: bool,
     pub value: usize,
@@ -96,7 +98,7 @@ pub fn answer_refused(stop: Stop) {
 }
 
 // Whether a file was read, and how many of its bytes are in the buffer: all, or as many as there is room for.
-#[derive(Drop)]
+#[derive(Clone, Copy)]
 pub struct Loaded {
     pub is_read: bool,
     pub length: usize,

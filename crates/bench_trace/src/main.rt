@@ -1,5 +1,7 @@
 // Reads a recorded bench trace from standard input, runs it, and writes a line after each operation (document 02, A.4). The key is
 // zero: 32 bytes, or as many as the one argument says, 16 or 32 (A.8). With other arguments nothing is read or run, and standard error says why.
+#![tactic(auto)]
+
 ghost use Rattle.std.specs.Prelude.{◌≡◌, ◌≤◌, length, replicate};
 ghost use Rattle.octets.specs.Limits.{long_key};
 ghost use Rattle.octets.specs.Octets.{put};

@@ -1,4 +1,6 @@
 // Which dump came before which: the positions of unsorted entries in chain order (document 02, A.11).
+#![tactic(auto)]
+
 ghost use Rattle.std.specs.Prelude.{◌≡◌, false, ◌≤◌, ◌<◌, length, take};
 ghost use Rattle.octets.specs.Limits.{tag_length, entries_limit};
 ghost use Rattle.chain.specs.Chain.{count, tag_at, entry_with, own_twice, first_entry, ends_early, order, entries_wrong, chain_order, ordered_as};

@@ -1,6 +1,8 @@
 // Which dump came before which (document 02, A.11). Reads 1 to 64 entries of 32 bytes, a checkpoint's previous tag and then its own, from standard
 // input and writes their positions in chain order, counted from 0, one a line; or `refused` with the stop's number. Where standard input
 // cannot be read, standard error says why. The exit status does not tell.
+#![tactic(auto)]
+
 ghost use Rattle.std.specs.Prelude.{◌≡◌, ◌+◌, ◌*◌, ◌≤◌, length};
 ghost use Rattle.octets.specs.Limits.{entry_length, entries_limit};
 

@@ -17,7 +17,7 @@ use octets::{kind_of, part, same, value_of, word_at};
 
 // What the head's words say: whether they pass stop 11, where the open part starts, the packet number, both parts' lengths in bytes and the
 // restarts.
-#[derive(Drop)]
+#[derive(Clone, Copy)]
 pub struct Head {
     pub good: bool,
     pub start: usize,

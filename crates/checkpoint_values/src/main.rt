@@ -1,6 +1,8 @@
 // Prints sealed checkpoints of several sizes under keys of 32 and of 16 bytes in both halves of a FRAM image, the largest by their ends, then
 // how each reads, under a key of the other length too, and how a half reads that was changed, also one with a checkpoint of the older
 // form, which comes from standard input.
+#![tactic(auto)]
+
 ghost use Rattle.std.specs.Prelude.{◌≡◌, ◌<◌, ◌≤◌, true, length};
 ghost use Rattle.octets.specs.Limits.{nonce_length, packet_limit, part_limit};
 ghost use Rattle.gcm.specs.Calls.{KeyLength};
@@ -26,7 +28,7 @@ const LAST: usize = 64;
 
 // A checkpoint: whether its key has 16 bytes or 32, its half, its packet number, both parts' lengths, its restarts, and its nonce's first
 // byte.
-#[derive(Drop)]
+#[derive(Clone, Copy)]
 struct Case {
     short: bool,
     half: usize,

@@ -1,5 +1,7 @@
 // The product of blocks, GHASH and the comparison of tags as calls for C, for hosts/constant_time: with operands that memcheck takes for
 // undefined, no jump and no address may depend on them. `variable_time` has what the test must find.
+#![tactic(auto)]
+
 mod variable_time;
 
 ghost use Rattle.std.specs.Prelude.{◌≡◌, length};

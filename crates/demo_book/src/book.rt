@@ -5,7 +5,7 @@ use octets::{copy, same};
 
 // A checkpoint: the save that its parts are of, its packet number, its restarts, the number of its nonce, its tag, and its bytes in a half of
 // the FRAM.
-#[derive(Drop)]
+#[derive(Clone, Copy)]
 pub struct Entry {
     pub save: usize,
     pub packet: u8,
@@ -16,7 +16,7 @@ pub struct Entry {
 }
 
 // A checkpoint that is not recorded yet, and its stores to come in their order: an erase, words, the record, an erase.
-#[derive(Drop)]
+#[derive(Clone, Copy)]
 pub struct Draft {
     pub entry: Entry,
     pub resumes: bool,
@@ -27,7 +27,7 @@ pub struct Draft {
 }
 
 // The entry is one where something was recorded; `count` counts the records.
-#[derive(Drop)]
+#[derive(Clone, Copy)]
 pub struct Book {
     pub recorded: bool,
     pub entry: Entry,
@@ -36,7 +36,7 @@ pub struct Book {
     pub draft: Draft,
 }
 
-#[derive(Drop)]
+#[derive(Clone, Copy)]
 enum Store {
     Erase,
     Word,

@@ -1,4 +1,6 @@
 // The unit that the bench cuts: its values, and document 01's book of what it has recorded.
+#![tactic(auto)]
+
 mod book;
 pub mod values;
 

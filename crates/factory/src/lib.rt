@@ -1,5 +1,7 @@
 // Checking what the assembly house programs (document 02, A.10): whether a ring and a FRAM image are what a save with a starting tag, run to
 // its end, leaves. Nothing is stored.
+#![tactic(auto)]
+
 ghost use Rattle.std.specs.Prelude.{◌≡◌, false, ◌≤◌, length};
 ghost use Rattle.octets.specs.Limits.{slot_length, fram_limit};
 ghost use Rattle.stops.specs.Stops.{first_of, then_stop};

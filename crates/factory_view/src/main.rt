@@ -1,6 +1,8 @@
 // Checks what the assembly house programs (document 02, A.10). The arguments are the ring's pages and slots and the names of three files with
 // the bytes of the ring, of the FRAM and of the key. It writes `accepted`, or `refused` with the stop's number. Where a file cannot be read,
 // nothing is checked, and standard error says which and why. The exit status does not tell.
+#![tactic(auto)]
+
 ghost use Rattle.io.specs.Counts.{IsPrefixLen};
 
 use bench_io::{Loaded, answer_refused, complain, not_read, number_argument, read_open, write_out};

@@ -1,5 +1,7 @@
 // AES-128-GCM and AES-256-GCM (SP 800-38D), by the key's length, with nonces of 12 bytes and tags of 16: sealing and opening alone, and
 // their pieces for a caller that makes its key schedule once.
+#![tactic(auto)]
+
 pub mod counter_mode;
 pub mod tag;
 
@@ -20,7 +22,7 @@ use stops::{Check, Stop};
 use tag::{hash_steps, tag_of, wipe_steps};
 
 // What a sealing answers: its tag, or why it stopped, and then sixteen zeros.
-#[derive(Drop)]
+#[derive(Clone, Copy)]
 pub struct Sealed {
     pub check: Check,
     pub tag: [u8; 16],

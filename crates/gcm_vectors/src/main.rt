@@ -1,5 +1,7 @@
 // Runs NIST's vectors for AES-128-GCM and AES-256-GCM, and cases at the limits of lengths, and says how many agree. A line of a file is a
 // case, of fields in hexadecimal; a field '-' is empty, and a line that begins with '#' is a comment.
+#![tactic(auto)]
+
 ghost use Rattle.std.specs.Prelude.{◌<◌, ◌≤◌, length};
 
 use hex_digits::decode;
@@ -16,7 +18,7 @@ const SPACE: u8 = 0x20;
 const LONGEST: usize = 65_537;
 
 // What a file's lines say: what a text is sealed to, what opens and what does not, or what certain lengths give.
-#[derive(Drop)]
+#[derive(Clone, Copy)]
 enum Kind {
     Seals,
     Opens,
@@ -191,7 +193,7 @@ fn written(stop: u32, text: usize) -> usize
 }
 
 // What a sealing made, and whether it is what the line says.
-#[derive(Drop)]
+#[derive(Clone, Copy)]
 struct Made {
     right: bool,
     tag: [u8; 16],
@@ -269,7 +271,7 @@ fn line_agrees(kind: Kind, line: &[u8]) -> bool {
     }
 }
 
-#[derive(Drop)]
+#[derive(Clone, Copy)]
 struct Tally {
     agree: u32,
     all: u32,

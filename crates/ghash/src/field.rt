@@ -5,7 +5,7 @@ ghost use Rattle.octets.specs.Octets.{◌⊕◌};
 ghost use Rattle.ghash.specs.Ghash.{add_if, bit, halved, Zᵢ, ◌•◌};
 ghost use Rattle.ghash.specs.Steps.{words, value, Steps};
 
-#[derive(Drop)]
+#[derive(Clone, Copy)]
 pub struct Block {
     pub hi: u64,
     pub lo: u64,

@@ -1,4 +1,6 @@
 // GHASH (SP 800-38D, algorithm 2), and what it is made of: blocks as elements of the field GF(2^128), from bytes and back.
+#![tactic(auto)]
+
 pub mod blocks;
 pub mod field;
 

@@ -1,4 +1,6 @@
 // Bytes in hexadecimal: two digits for each, the higher first.
+#![tactic(auto)]
+
 ghost use Rattle.std.specs.Prelude.{◌≡◌, ◌+◌, ◌*◌, ◌≤◌, ◌<◌, length};
 ghost use Rattle.octets.specs.Octets.{put};
 ghost use Rattle.hex_digits.specs.Digits.{is_digit, digit_value, digit_of, pair, decoded, encoded};

@@ -1,5 +1,7 @@
 // Reads an image of 1 to 262,144 bytes from standard input and writes it as Intel HEX to standard output (document 02, A.1).
 // Another length is refused: nothing goes to standard output, and `refused 2` to standard error.
+#![tactic(auto)]
+
 use bench_io::{refuse, write_out};
 use intel_hex::export_image;
 use libc::STDIN_FILENO;

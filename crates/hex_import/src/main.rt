@@ -1,6 +1,8 @@
 // Takes one argument, the length of an image in bytes as a decimal number, reads a text of Intel HEX from standard input and writes the
 // image to standard output (document 02, A.1). Bytes that no line names are 0xFF, as in an erased image. On a refusal nothing goes to
 // standard output, and `refused` with the stop's number to standard error.
+#![tactic(auto)]
+
 ghost use Rattle.std.specs.Prelude.{◌≡◌, ◌+◌, length};
 ghost use Rattle.octets.specs.Limits.{image_limit};
 

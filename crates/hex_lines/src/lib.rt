@@ -1,4 +1,6 @@
 // Lines of Intel HEX: one is written to the front of a buffer, or read from the front of a text (document 02, A.1).
+#![tactic(auto)]
+
 pub mod read;
 pub mod write;
 

@@ -12,7 +12,7 @@ use hex_digits::{is_digit, pair};
 use octets::part;
 
 // The numbers that a line begins with, and how many bytes end it: 0 where it has no end.
-#[derive(Drop)]
+#[derive(Clone, Copy)]
 pub struct Line {
     pub length: usize,
     pub address: usize,
@@ -21,13 +21,13 @@ pub struct Line {
 }
 
 // What stands at the front of a text: a line, and whether its checksum is wrong.
-#[derive(Drop)]
+#[derive(Clone, Copy)]
 pub enum Found {
     Malformed,
     At(Line, bool),
 }
 
-#[derive(Drop)]
+#[derive(Clone, Copy)]
 pub enum Summed {
     NoDigit,
     Sum(u32),

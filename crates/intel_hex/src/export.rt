@@ -12,7 +12,7 @@ use octets::limits::DATA_PER_LINE;
 use stops::{Check, Stop};
 
 // What an export answers: the length of the text, or why it stopped, and then 0.
-#[derive(Drop)]
+#[derive(Clone, Copy)]
 pub struct Exported {
     pub check: Check,
     pub written: usize,

@@ -15,7 +15,7 @@ use hex_lines::{BOUNDARY, DATA_AT, DATA_LINE, LEAST_LINE, UPPER_LINE};
 use stops::{Check, Stop};
 
 // What the lines so far have set: the upper address bits, the first address above the data, and whether the end line has been read.
-#[derive(Drop)]
+#[derive(Clone, Copy)]
 pub struct Reading {
     pub upper: usize,
     pub next: usize,
@@ -23,7 +23,7 @@ pub struct Reading {
 }
 
 // What one line more gives: its stop, the reading behind it, and its length with its end.
-#[derive(Drop)]
+#[derive(Clone, Copy)]
 pub struct Judged {
     pub check: Check,
     pub reading: Reading,

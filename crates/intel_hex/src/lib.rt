@@ -1,4 +1,6 @@
 // Images as Intel HEX, the text that a bench programmer reads and writes (document 02, A.1).
+#![tactic(auto)]
+
 mod export;
 mod import;
 

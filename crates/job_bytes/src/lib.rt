@@ -1,4 +1,6 @@
 // Jobs and sessions as bytes (hosts/c/keeper.h): read from a buffer, and written to one.
+#![tactic(auto)]
+
 ghost use Rattle.std.specs.Prelude.{◌≡◌, ◌+◌, ◌≤◌, ◌<◌, length};
 ghost use Rattle.octets.specs.Limits.{nonce_length, tag_length};
 ghost use Rattle.octets.specs.Octets.{part, put};

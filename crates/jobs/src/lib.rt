@@ -1,4 +1,6 @@
 // Jobs and the advance (document 01, "What the unit calls"): a job goes in by value and its successor comes out, in the end with the new session.
+#![tactic(auto)]
+
 mod advance;
 mod job;
 mod lent;

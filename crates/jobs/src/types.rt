@@ -3,7 +3,7 @@ use octets::limits::{NONCE_LENGTH, SLOT_LENGTH, TAG_LENGTH};
 use stops::Stop;
 
 // The next store of a job: the page to erase, or the number of the word to copy.
-#[derive(Drop)]
+#[derive(Clone, Copy)]
 pub enum Phase {
     EraseFirst(usize),
     Words(usize),
@@ -13,7 +13,7 @@ pub enum Phase {
 }
 
 // Which start a job came from.
-#[derive(Drop)]
+#[derive(Clone, Copy)]
 pub enum Origin {
     Save,
     PowerUp,
@@ -21,7 +21,7 @@ pub enum Origin {
 
 // A checkpoint on its way into the memories. Half 0 is A and half 1 is B; `length` is the checkpoint's in bytes; page and
 // slot are the record's target; tag, restarts and packet number are the checkpoint's own.
-#[derive(Drop)]
+#[derive(Clone, Copy)]
 pub struct Job {
     pub phase: Phase,
     pub origin: Origin,
@@ -36,7 +36,7 @@ pub struct Job {
 }
 
 // The newest record and where it stands, and its checkpoint's tag, restarts and packet number.
-#[derive(Drop)]
+#[derive(Clone, Copy)]
 pub struct Session {
     pub page: usize,
     pub slot: usize,
@@ -47,7 +47,7 @@ pub struct Session {
 }
 
 // What an advance says.
-#[derive(Drop)]
+#[derive(Clone, Copy)]
 pub enum Progress {
     GoingOn,
     Saved,
@@ -56,7 +56,7 @@ pub enum Progress {
 }
 
 // What an advance answers. The session is one where the progress is Saved or Restored, and else all zeros.
-#[derive(Drop)]
+#[derive(Clone, Copy)]
 pub struct Advanced {
     pub progress: Progress,
     pub job: Job,
@@ -64,21 +64,21 @@ pub struct Advanced {
 }
 
 // What an advance of a lent job answers.
-#[derive(Drop)]
+#[derive(Clone, Copy)]
 pub struct Moved {
     pub progress: Progress,
     pub session: Session,
 }
 
 // What a start says.
-#[derive(Drop)]
+#[derive(Clone, Copy)]
 pub enum Start {
     Begun,
     Stopped(Stop),
 }
 
 // What a save answers. Beside a stop the job is done, and all else in it zero.
-#[derive(Drop)]
+#[derive(Clone, Copy)]
 pub struct Started {
     pub start: Start,
     pub job: Job,

@@ -1,5 +1,7 @@
 // The checkpoint keeper (document 01): power-up and wipe. The save is in the crate `saves`, looking in the crate `look`, and what jobs and
 // sessions are and the advance in the crate `jobs`. The names of all three are passed on.
+#![tactic(auto)]
+
 mod buffers;
 mod resuming;
 mod types;

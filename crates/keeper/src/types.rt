@@ -2,7 +2,7 @@
 use jobs::{Job, Start};
 
 // What a power-up answers; `length` is the secret part's.
-#[derive(Drop)]
+#[derive(Clone, Copy)]
 pub struct PoweredUp {
     pub start: Start,
     pub job: Job,

@@ -1,5 +1,7 @@
 // The keeper's calls for C and Rust programs (hosts/c/keeper.h): numbers, and byte slices as a pointer and a length. A call answers 0, or
 // document 01's number of its stop, and a stop changes nothing behind a pointer.
+#![tactic(auto)]
+
 mod calls;
 mod cipher;
 mod dumps;

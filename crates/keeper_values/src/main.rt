@@ -1,5 +1,7 @@
 // The papers' bench values that are run and not proved, the lives of units with a key of 32 bytes and of 16 from their first save on, and that
 // of one whose firmware was updated.
+#![tactic(auto)]
+
 mod bounds;
 mod keys;
 mod life;

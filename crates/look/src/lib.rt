@@ -1,4 +1,6 @@
 // Looking at the newest checkpoint (document 01, "What the unit calls"): its restarts, and where its open part lies.
+#![tactic(auto)]
+
 mod looking;
 mod types;
 

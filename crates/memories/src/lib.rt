@@ -1,4 +1,6 @@
 // The stops that calls have in common: those of both memories, which every call on them tries first, and those of what a ring reads as.
+#![tactic(auto)]
+
 ghost use Rattle.std.specs.Prelude.{◌≡◌};
 ghost use Rattle.stops.specs.Stops.{first_of};
 ghost use Rattle.stops.specs.View.{check_number};

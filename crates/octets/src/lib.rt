@@ -1,4 +1,6 @@
 // Byte strings: the functions on slices that several crates call, and the limits of documents 01 and 02.
+#![tactic(auto)]
+
 pub mod limits;
 
 ghost use Rattle.std.specs.Prelude.{◌≡◌, ◌+◌, ◌^◌, ◌≤◌, ◌<◌, length, replicate};

@@ -1,4 +1,6 @@
 // A repairer's test: a unit's supply is cut forty times, and after each cut the unit powers up. Writes a line for each cut.
+#![tactic(auto)]
+
 mod bench;
 mod cutting;
 mod images;

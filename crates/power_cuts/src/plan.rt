@@ -1,7 +1,7 @@
 // The forty cuts: what the unit does before each, and where its power fails.
 
 // What a cut leaves of the store that it falls into. NoStore is a cut between two calls.
-#[derive(Drop)]
+#[derive(Clone, Copy)]
 pub enum Left {
     NoStore,
     Nothing,
@@ -13,7 +13,7 @@ pub enum Left {
 }
 
 // A number of saves that end, then a save, or the power-up after the cut before, that makes a number of stores until its power fails.
-#[derive(Drop)]
+#[derive(Clone, Copy)]
 pub struct Cut {
     pub saves: usize,
     pub resumes: bool,

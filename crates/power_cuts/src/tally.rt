@@ -6,7 +6,7 @@ use demo_book::values::one_more;
 
 // How often the power-up resumed, found nothing recorded, sounded the alert or was cut again; the most restarts; the pages erased; after which
 // cuts something was not as the book has it.
-#[derive(Drop)]
+#[derive(Clone, Copy)]
 pub struct Tally {
     resumed: usize,
     empty: usize,

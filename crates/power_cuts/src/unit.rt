@@ -13,7 +13,7 @@ use stops::stop_number;
 
 // `saves` and `starts` are the numbers of the last save and of the last nonce, `stop` is the last start's stop or 0, `agrees` says whether all
 // that was answered since the last cut was the book's, and `erased` counts pages.
-#[derive(Drop)]
+#[derive(Clone, Copy)]
 pub struct Unit {
     pub session: Session,
     pub job: Job,

@@ -1,5 +1,7 @@
 // A half that was read opened and sealed anew, with one restart more, for a power-up (document 01, "What the unit calls"). Everything that
 // can stop it is tried before a byte of staging or state is written.
+#![tactic(auto)]
+
 ghost use Rattle.std.specs.Prelude.{◌≡◌, true, false, List, ℕ, ◌≤◌, ◌<◌, length};
 ghost use Rattle.octets.specs.Limits.{nonce_length, part_limit, restart_limit};
 ghost use Rattle.stops.specs.Stops.{first_of};
@@ -24,7 +26,7 @@ use octets::{fill, part};
 use stops::{Check, Stop};
 
 // What sealing anew answers: why it stops, or the new checkpoint's tag.
-#[derive(Drop)]
+#[derive(Clone, Copy)]
 pub struct Resealed {
     pub check: Check,
     pub tag: [u8; 16],

@@ -1,4 +1,6 @@
 // The nonce ring in flash (document 01, "The nonce ring"): reading it, and its stores.
+#![tactic(auto)]
+
 mod found;
 mod pages;
 mod read;
@@ -10,7 +12,7 @@ pub use read::read_ring;
 pub use stores::{erase_page, record_of, write_record};
 
 // What reading a ring finds: the newest record's place, and the page that awaits erasing.
-#[derive(Drop)]
+#[derive(Clone, Copy)]
 pub enum Newest {
     Blank,
     Unreadable,

@@ -1,4 +1,6 @@
 // The state of a ring as a line of text, as the program ringview writes it (document 01, "Bench values").
+#![tactic(auto)]
+
 ghost use Rattle.std.specs.Prelude.{◌≡◌, false, [], ◌+◌, ◌≤◌, ◌<◌, length};
 ghost use Rattle.stops.specs.View.{stop_number};
 ghost use Rattle.ring.specs.Ring.{ring_wrong, read_ring};
@@ -11,7 +13,7 @@ use ring::{Newest, half_named, read_ring, ring_wrong, slot_at};
 use stops::{Stop, stop_number};
 
 // The first `length` bytes are the line; the others are zeros.
-#[derive(Drop)]
+#[derive(Clone, Copy)]
 pub struct Line {
     pub bytes: [u8; 40],
     pub length: usize,

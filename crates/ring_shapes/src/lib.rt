@@ -1,4 +1,6 @@
 // Every shape of a readable ring of a small size, numbered, for the bench (document 02, A.9).
+#![tactic(auto)]
+
 ghost use Rattle.std.specs.Prelude.{◌≡◌, ◌+◌, ◌*◌, ◌≤◌, length};
 ghost use Rattle.octets.specs.Limits.{slot_length, shape_pages_limit, shape_slots_limit};
 ghost use Rattle.ring_shapes.specs.Shapes.{size_wrong, past_last, with_records, ring_number, ring_shape, shaped_as};

@@ -1,6 +1,8 @@
 // Every shape of a readable ring of a small size (document 02, A.9). With no arguments it writes ringview's line of each ring of 3 pages of
 // 2 slots; with PAGES and SLOTS those of that size; with a NUMBER besides, counted from 0, that ring itself, as bytes. On a refusal nothing goes
 // to standard output, and `refused` with the stop's number to standard error.
+#![tactic(auto)]
+
 ghost use Rattle.std.specs.Prelude.{◌≡◌, ◌+◌, ◌*◌, ◌≤◌, length};
 ghost use Rattle.octets.specs.Limits.{slot_length, shape_pages_limit, shape_slots_limit};
 
@@ -17,7 +19,7 @@ const LAST: usize = SHAPE_PAGES_LIMIT * (SHAPE_SLOTS_LIMIT + 1);
 const ROOM: usize = SLOT_LENGTH * (SHAPE_PAGES_LIMIT + 1) * (SHAPE_SLOTS_LIMIT + 1);
 
 // Whether the arguments name a size, and which.
-#[derive(Drop)]
+#[derive(Clone, Copy)]
 struct Size {
     is_size: bool,
     pages: usize,

@@ -1,5 +1,7 @@
 // Writes the states of the rings in rings.txt, each of 3 pages of 2 slots, as lines: document 01's bench values M1 to M11 and inputs of other lengths.
 // A line of the file that begins with '#' is written as it is; any other is a ring in hexadecimal.
+#![tactic(auto)]
+
 use hex_digits::decode;
 use libc::STDOUT_FILENO;
 use vectors::until;

@@ -1,4 +1,6 @@
 // Reads standard input as a ring of 3 pages of 2 slots and writes its state as one line (document 01, "Bench values").
+#![tactic(auto)]
+
 use libc::{STDIN_FILENO, STDOUT_FILENO};
 
 fn main() {

@@ -3,7 +3,7 @@ use jobs::Session;
 use octets::limits::TAG_LENGTH;
 
 // Which of the two it is given. A starting tag that is not 16 bytes is stop 3.
-#[derive(Drop)]
+#[derive(Clone, Copy)]
 pub enum Given {
     StartingTag,
     Session,
@@ -12,7 +12,7 @@ pub enum Given {
 
 // What a checkpoint follows: no other, and then a starting tag stands for the tag of the one before, or that of a session. `tag` counts
 // with StartingTag alone, and `session` with Session alone. `from_tag` and `from_session` make one.
-#[derive(Drop)]
+#[derive(Clone, Copy)]
 pub struct From {
     pub given: Given,
     pub tag: [u8; TAG_LENGTH],

@@ -1,4 +1,6 @@
 // The substitution table of FIPS 197, section 5.1.1.
+#![tactic(auto)]
+
 ghost use Rattle.std.specs.Prelude.{◌≡◌};
 ghost use Rattle.sbox.specs.Field.{sub_byte};
 ghost use Rattle.octets.specs.Table.{table};

@@ -1,4 +1,6 @@
 // Settings in the open part (document 02, A.12): volume and alert delay read from a list, and one setting of a list changed where it stands.
+#![tactic(auto)]
+
 ghost use Rattle.std.specs.Prelude.{◌≡◌, false, ◌*◌, ◌^◌, ◌≤◌, ◌<◌};
 ghost use Rattle.octets.specs.Octets.{put};
 ghost use Rattle.octets.specs.Word.{top_word};
@@ -20,7 +22,7 @@ pub const ALERT_DELAY: u32 = 2;
 const LAST: u32 = 14;
 
 // What the reader answers: the volume, and the alert delay in seconds, or why it stopped.
-#[derive(Drop)]
+#[derive(Clone, Copy)]
 pub enum Settings {
     Read { volume: u32, delay: u32 },
     Unread(Stop),

@@ -1,6 +1,8 @@
 // The settings of a list by name (document 02, A.12). Reads a list, a checkpoint's open part, from standard input and writes a line for each of its
 // words: `version`, `volume`, `alert delay` in seconds, and each other setting by its kind; or `refused` with the stop's number. Where
 // standard input cannot be read or is longer than any open part, standard error says so. The exit status does not tell.
+#![tactic(auto)]
+
 use bench_io::{answer_refused, complain, not_written, read_open};
 use libc::{STDIN_FILENO, STDOUT_FILENO};
 use octets::limits::PART_LIMIT;

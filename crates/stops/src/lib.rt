@@ -1,10 +1,12 @@
 // The stops of documents 01 and 02, by name, and the trying of conditions in order.
+#![tactic(auto)]
+
 ghost use Rattle.std.specs.Prelude.{◌≡◌};
 ghost use Rattle.stops.specs.Stops.{then_stop};
 ghost use Rattle.stops.specs.View.{stop_number, check_number};
 
 // Why an operation stopped: document 01's numbers 1 to 14, and document 02's from 15 on.
-#[derive(Drop)]
+#[derive(Clone, Copy)]
 pub enum Stop {
     RingSize,
     FramSize,
@@ -35,7 +37,7 @@ pub enum Stop {
 }
 
 // What an operation's checks say.
-#[derive(Drop)]
+#[derive(Clone, Copy)]
 pub enum Check {
     Pass,
     Stopped(Stop),

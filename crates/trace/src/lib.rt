@@ -1,4 +1,6 @@
 // Recorded bench traces (document 02, A.4): a trace is checked whole, and then run on a unit of the bench.
+#![tactic(auto)]
+
 mod run;
 mod starts;
 mod unit;

@@ -14,7 +14,7 @@ use stops::{Check, Stop};
 use trace_words::trace_wrong;
 
 // What running a trace answers: the length of the lines, or why it was not run, and then 0.
-#[derive(Drop)]
+#[derive(Clone, Copy)]
 pub struct Traced {
     pub check: Check,
     pub written: usize,

@@ -17,14 +17,14 @@ use ring_line::{Line, refused_line, ring_line};
 use trace_words::is_cut;
 
 // The session, if there is one.
-#[derive(Drop)]
+#[derive(Clone, Copy)]
 pub struct Held {
     pub present: bool,
     pub session: Session,
 }
 
 // The bench's unit without its memories. If a cut is set, the next operation makes at most `stores` stores.
-#[derive(Drop)]
+#[derive(Clone, Copy)]
 pub struct Unit {
     pub held: Held,
     pub cut: bool,
@@ -32,7 +32,7 @@ pub struct Unit {
 }
 
 // What a word did: the unit after it, and where the text of the lines then ends.
-#[derive(Drop)]
+#[derive(Clone, Copy)]
 pub struct Step {
     pub unit: Unit,
     pub end: usize,

@@ -1,4 +1,6 @@
 // The words of a recorded bench trace, and which traces are run (document 02, A.4).
+#![tactic(auto)]
+
 ghost use Rattle.std.specs.Prelude.{◌≡◌, false};
 ghost use Rattle.trace_words.specs.Words.{is_cut, word_wrong, words_wrong, words_of, trace_wrong};
 

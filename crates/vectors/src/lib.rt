@@ -1,4 +1,6 @@
 // Reading test vectors: lines of fields in hexadecimal.
+#![tactic(auto)]
+
 ghost use Rattle.std.specs.Prelude.{◌≡◌, ◌≤◌, length};
 ghost use Rattle.vectors.specs.Lines.{until};
 
