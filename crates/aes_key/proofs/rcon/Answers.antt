@@ -5,17 +5,8 @@ use borrow.Author.Rules.{rules}
 use Rattle.octets.proofs.Tables.{get_or_table}
 use Rattle.sbox.specs.Field.{xtime}
 use Rattle.aes_key.specs.Key.{x_power}
-use Rattle.aes_key.proofs.rcon.Statement.{statement}
-use Rattle.aes_key.proofs.rcon.Tie as tie
+use Rattle.aes_key.proofs.rcon.Goals as goal
 
-returns : tie.Need-returns
+pub returns : goal.returns
 unfolding x_power xtime
 returns c = get_or_table 10 x_power (c.args.j - 1) (search rules)
-
-pub rcon_spec : {M : Type 1} → statement M
-rcon_spec =
-    tie.close
-    (tie.spec
-    (λ c. search rules)
-    (λ c. search rules)
-    returns)

@@ -2,12 +2,8 @@
 -- Assumes nothing.
 use mathlib.Core.Path.{refl}
 use Rattle.sbox.specs.Field.{xtime, times, ◌•◌, power, inverse, turned, affine, sub_byte}
-use Rattle.sbox.proofs.sbox.Statement.{statement}
-use Rattle.sbox.proofs.sbox.Tie as tie
+use Rattle.sbox.proofs.sbox.Goals as goal
 
-returns : tie.Need-returns
+pub returns : goal.returns
 unfolding xtime times ◌•◌ power inverse turned affine sub_byte
 returns c = refl
-
-pub sbox_spec : {M : Type 1} → statement M
-sbox_spec = tie.close (tie.spec returns)

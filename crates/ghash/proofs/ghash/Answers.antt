@@ -9,9 +9,7 @@ use Rattle.ghash.specs.Steps.{words}
 use Rattle.ghash.specs.Ghash.{hashed, GHASH, ◌•◌}
 use Rattle.ghash.specs.Input.{padded, hash_input}
 use Rattle.ghash.proofs.Hashing.{GHASH_input}
-use borrow.Author.Rules.{rules}
-use Rattle.ghash.proofs.ghash.Statement.{statement}
-use Rattle.ghash.proofs.ghash.Tie as tie
+use Rattle.ghash.proofs.ghash.Goals as goal
 
 nothing : words 0 0 ≡ 0
 unfolding words
@@ -22,11 +20,6 @@ whole : (H : ℕ) (A C : List ℕ) (y₁ y₂ x r : ℕ) → 8 * length A < 2 ^ 
     → r ≡ GHASH H (hash_input A C)
 whole H A C y₁ y₂ x r ha hc h₁ h₂ hx hr = cc (nothing, GHASH_input H A C ha hc)
 
-returns : tie.Need-returns
+pub returns : goal.returns
 returns c H steps =
-    let second = c.before.before in
-    whole H _ _ _ _ _ _ (omega arith) (omega arith) (second.before.hash.ensures H steps) (second.hash2.ensures H steps) c.before.add.ensures (c.product.ensures H steps)
-
-pub ghash_spec : {M : Type 1} → statement M
-ghash_spec =
-    tie.close (tie.spec (λ c κs. search rules) (λ c κs. search rules) (λ c. search rules) (λ c. search rules) (λ c κs. search rules) (λ c κs. search rules) returns)
+    whole H _ _ _ _ _ _ (omega arith) (omega arith) (c.hash.ensures H steps) (c.hash-y.ensures H steps) c.add.ensures (c.product.ensures H steps)
