@@ -9,7 +9,7 @@ abbrev pub invariant-loop-i : goal.invariant-loop-i
 invariant-loop-i l =
     (l.i ≤ 64)
     × (l.w ≡ l.initial.w * 2 ^ l.i % 2 ^ 64)
-    × ((y H : ℕ) → Steps H l.t → ((l.i : ℕ) → l.i < 64 → l.initial.w / 2 ^ (63 - l.i) % 2 ≡ bit y (l.at + l.i)) → value l.initial.sum ≡ Zᵢ l.at y H → value l.sum ≡ Zᵢ (l.at + l.i) y H)
+    × ((y H : ℕ) → Steps H l.t → ((k : ℕ) → k < 64 → l.initial.w / 2 ^ (63 - k) % 2 ≡ bit y (l.at + k)) → value l.initial.sum ≡ Zᵢ l.at y H → value l.sum ≡ Zᵢ (l.at + l.i) y H)
 
 abbrev pub decreases-loop-i : goal.decreases-loop-i
 decreases-loop-i l = 64 - l.i
