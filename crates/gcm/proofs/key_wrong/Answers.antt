@@ -3,12 +3,8 @@ use Rattle.std.proofs.Common.{Bool, not, ◌&&◌, eqb, sym, ap}
 use Rattle.octets.specs.Limits.{short_key, long_key}
 use Rattle.gcm.specs.Calls.{key_wrong}
 use Rattle.gcm.proofs.Keys.{and_nothing}
-use Rattle.gcm.proofs.key_wrong.Statement.{statement}
-use Rattle.gcm.proofs.key_wrong.Tie as tie
+use Rattle.gcm.proofs.key_wrong.Goals as goal
 
-returns : tie.Need-returns
+pub returns : goal.returns
 unfolding key_wrong
 returns c = ap (λ (b : Bool). not (eqb c.args.n short_key) && b) (sym (and_nothing (not (eqb c.args.n long_key))))
-
-pub key_wrong_spec : {M : Type 1} → statement M
-key_wrong_spec = tie.close (tie.spec returns)
