@@ -3,7 +3,6 @@ use mathlib.Core.Path.{◌≡◌, ap, ◌∙◌}
 use mathlib.Core.List.{List}
 use Prim.Native.Nat.{ℕ, ◌+◌}
 use native.Mathlib.Omega.{arith}
-use borrow.Author.Rules.{rules}
 use Rattle.octets.specs.Limits.{part_limit}
 use Rattle.octets.specs.Octets.{part, put}
 use Rattle.aes.specs.Cipher.{aes}
@@ -12,8 +11,7 @@ use Rattle.checkpoint.specs.Checkpoint.{Form, head_length}
 use Rattle.checkpoint.specs.Half.{form_of, open_length, secret_length, stored_cipher, stored}
 use Rattle.checkpoint.proofs.SealedLaws.{head_small}
 use Rattle.checkpoint.proofs.StoredLaws.{head_facts}
-use Rattle.checkpoint.proofs.half.open_secret.Statement.{statement}
-use Rattle.checkpoint.proofs.half.open_secret.Tie as tie
+use Rattle.checkpoint.proofs.half.open_secret.Goals as goal
 
 decrypted : (form : Form) (key nonce half : List ℕ) (CIPH : List ℕ → List ℕ) (b m n : ℕ) (text state out : List ℕ) → CIPH ≡ aes key → b ≡ head_length form
     → m ≡ open_length form half → n ≡ secret_length form half → text ≡ part half (b + m) n → out ≡ put state 0 (AE_text CIPH nonce text)
@@ -22,23 +20,14 @@ unfolding stored stored_cipher encrypted
 decrypted form key nonce half CIPH b m n text state out e w x y f g =
     g ∙ ap (λ (t : List ℕ). put state 0 (AE_text CIPH nonce t)) f ∙ (λ i. put state 0 (AE_text (e i) nonce (part half (w i + x i) (y i))))
 
-part_requires : tie.Need-part-requires
-part_requires c κs =
-    let start = c.before.before.before in
-    omega (arith, (head_facts part_limit (form_of start.args.half.now) start.args.half.now start.requires.4).fits, start.requires.5, start.requires.6, start.requires.7)
+pub part-requires : goal.part-requires
+part-requires c =
+    omega (arith, (head_facts part_limit (form_of c.args.half.now) c.args.half.now c.requires.4).fits, c.requires.5, c.requires.6, c.requires.7)
 
-returns : tie.Need-returns
+pub returns : goal.returns
 returns c key e =
-    let start = c.before.before.before.before.before.before.before.before in
-    let a = start.args in
-    decrypted (form_of a.half.now) key a.nonce.now a.half.now _ a.start a.«open» a.secret _ a.state.now _ e start.requires.5 start.requires.6 start.requires.7 c.before.before.before.before.part.ensures.0 c.before.before.encrypt.ensures
+    let a = c.args in
+    decrypted (form_of a.half.now) key a.nonce.now a.half.now _ a.start a.«open» a.secret _ a.state.now _ e c.requires.5 c.requires.6 c.requires.7 c.part.ensures.0 c.encrypt.ensures
 
-pub open_secret_spec : {M : Type 1} → statement M
-open_secret_spec =
-    tie.close
-    (tie.spec
-    (λ c. let start = c.before.before.before in omega (arith, (head_facts part_limit (form_of start.args.half.now) start.args.half.now start.requires.4).open_small, head_small (form_of start.args.half.now), start.requires.5, start.requires.6))
-    part_requires
-    (λ c κs. search rules)
-    (λ c. search rules)
-    returns)
+pub overflow_add-start : goal.overflow_add-start
+overflow_add-start c = omega (arith, (head_facts part_limit (form_of c.args.half.now) c.args.half.now c.requires.4).open_small, head_small (form_of c.args.half.now), c.requires.5, c.requires.6)

@@ -4,13 +4,11 @@ use mathlib.Core.Bool.{Bool, cond, and-true}
 use mathlib.Core.List.{List}
 use Prim.Native.Nat.{ℕ}
 use lib.Dec.{eqb}
-use borrow.Author.Rules.{rules}
 use borrow.Author.Tests.{ne_eqb}
 use Rattle.octets.specs.Word.{word_at, kind_of, value_of}
 use Rattle.checkpoint.specs.Checkpoint.{Older, Longer, front_words}
 use Rattle.checkpoint.specs.Half.{kind_at, value_at, form_of, stored_packet, kinds_from}
-use Rattle.checkpoint.proofs.half.read_head.Statement.{statement}
-use Rattle.checkpoint.proofs.half.read_head.Tie as tie
+use Rattle.checkpoint.proofs.half.read_head.Goals as goal
 
 -- the first word and its kind
 module _ (half : List ℕ) (w k : ℕ) (e : w ≡ word_at half 0) (f : k ≡ kind_of w) where
@@ -34,31 +32,17 @@ module _ (half : List ℕ) (w k : ℕ) (e : w ≡ word_at half 0) (f : k ≡ kin
   unfolding stored_packet value_at
   packet v g = g ∙ ap value_of e
 
-returns : tie.Need-returns
+pub returns-then-kind-eq1 : goal.returns-then-kind-eq1
 unfolding kinds_from stored_packet
-returns c =
-    let tested = c.before.before in
-    let half = tested.before.before.before.args.half.now in
-    let form = older half _ _ tested.before.word_at.ensures tested.kind_of.ensures c.before.if1.true in
-    rw form (c.read-words.ensures Older refl refl refl)
+returns-then-kind-eq1 c =
+    let half = c.args.half.now in
+    let form = older half _ _ c.word_at-first.ensures c.kind_of-kind.ensures c.if-kind-eq1.true in
+    rw form (c.read_words.ensures Older refl refl refl)
 
-returns_2 : tie.Need-returns-2
-returns_2 c =
-    let tested = c.before.before.before in
-    let half = tested.before.before.before.args.half.now in
-    let e = tested.before.word_at.ensures in
-    let f = tested.kind_of.ensures in
-    let form = longer half _ _ e f c.before.before.if1.false in
-    rw form (c.read-words2.ensures Longer refl (front half _ _ e f) (packet half _ _ e f _ c.before.value_of.ensures.0))
-
-pub read_head_spec : {M : Type 1} → statement M
-read_head_spec =
-    tie.close
-    (tie.spec
-    (λ c κs. search rules)
-    (λ c κs. search rules)
-    (λ c κs. search rules)
-    (λ c κs. search rules)
-    (λ c κs. search rules)
-    returns
-    returns_2)
+pub returns-else-kind-eq1 : goal.returns-else-kind-eq1
+returns-else-kind-eq1 c =
+    let half = c.args.half.now in
+    let e = c.word_at-first.ensures in
+    let f = c.kind_of-kind.ensures in
+    let form = longer half _ _ e f c.if-kind-eq1.false in
+    rw form (c.read_words-else-kind-eq1.ensures Longer refl (front half _ _ e f) (packet half _ _ e f _ c.value_of.ensures.0))

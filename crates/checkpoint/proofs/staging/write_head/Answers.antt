@@ -3,15 +3,13 @@ use mathlib.Core.Path.{◌≡◌, ap, ◌∙◌}
 use mathlib.Core.List.{List, ◌++◌, append_assoc, append-nil}
 use Prim.Native.Nat.{ℕ}
 use lib.ListN.{length}
-use borrow.Author.Rules.{rules}
 use Rattle.octets.specs.Limits.{tag_length}
 use Rattle.octets.specs.Octets.{put}
 use Rattle.octets.specs.Word.{word}
 use Rattle.octets.proofs.Numbers.{length_word}
 use Rattle.octets.proofs.Lent.{Front, front_on}
 use Rattle.checkpoint.specs.Checkpoint.{Longer, words, head_words}
-use Rattle.checkpoint.proofs.staging.write_head.Statement.{statement}
-use Rattle.checkpoint.proofs.staging.write_head.Tie as tie
+use Rattle.checkpoint.proofs.staging.write_head.Goals as goal
 
 -- four words and a tag, one after the other
 staged : (xs a b c d e t : List ℕ) (p x y z : ℕ) → length t ≡ tag_length
@@ -25,25 +23,8 @@ staged xs a b c d e t p x y z l h₁ h₂ h₃ h₄ h₅ =
     let four = front_on (word 3 z) d 4 three h₄ (length_word 3 z) in
     (front_on t e tag_length four h₅ l).written ∙ ap (put xs 0) (simp (append_assoc, append-nil))
 
-returns : tie.Need-returns
+pub returns : goal.returns
 returns c =
-    let fourth = c.before.before.before.before.before.before in
-    let third = fourth.before.before.before.before in
-    let second = third.before.before.before.before in
-    let first = second.before.before.before.before in
-    let start = first.before.before.before.before in
-    let a = start.args in
-    staged a.staging.now _ _ _ _ _ a.previous.now a.packet a.«open» a.secret a.restarts start.requires.4
-    first.write_word.ensures second.write-word2.ensures third.write-word3.ensures fourth.write-word4.ensures c.before.before.copy_at.ensures
-
-pub write_head_spec : {M : Type 1} → statement M
-write_head_spec =
-    tie.close
-    (tie.spec
-    (λ c κs. search rules)
-    (λ c κs. search rules)
-    (λ c κs. search rules)
-    (λ c κs. search rules)
-    (λ c κs. search rules)
-    (λ c. search rules)
-    returns)
+    let a = c.args in
+    staged a.staging.now _ _ _ _ _ a.previous.now a.packet a.«open» a.secret a.restarts c.requires.4
+    c.write_word.ensures c.write_word-2.ensures c.write_word-3.ensures c.write_word-4.ensures c.copy_at.ensures

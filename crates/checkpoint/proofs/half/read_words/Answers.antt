@@ -6,14 +6,12 @@ use Prim.Native.Nat.{ℕ, ◌+◌, ◌-◌, ◌*◌}
 use native.Mathlib.Omega.{arith}
 use lib.Dec.{eqb, leb}
 use lib.ListN.{length}
-use borrow.Author.Rules.{rules}
 use Rattle.octets.specs.Limits.{part_limit, restart_limit, tag_length}
 use Rattle.octets.specs.Word.{word_at, kind_of, value_of}
 use Rattle.checkpoint.specs.Checkpoint.{Form, Older, Longer, front_words, head_words, open_word, secret_word, restarts_word, head_length}
 use Rattle.checkpoint.specs.Half.{kind_at, value_at, kinds_from, open_length, secret_length, stored_restarts, stored_length, good_head}
 use Rattle.checkpoint.proofs.SealedLaws.{words_more}
-use Rattle.checkpoint.proofs.half.read_words.Statement.{statement}
-use Rattle.checkpoint.proofs.half.read_words.Tie as tie
+use Rattle.checkpoint.proofs.half.read_words.Goals as goal
 
 -- the i-th word, which stands at offset n
 kind : (half : List ℕ) (i n w k : ℕ) → n ≡ 4 * i → w ≡ word_at half n → k ≡ kind_of w → k ≡ kind_at half i
@@ -44,52 +42,26 @@ module _ (form : Form) (half : List ℕ) (front : Bool) (s k₁ k₂ k₃ v₁ v
       ∙ ap (λ (t : Bool). t && leb (open_length form half) part_limit && leb (secret_length form half) part_limit && leb (stored_restarts form half) restart_limit
       && leb (stored_length form half) (length half)) (in_order form half)
 
-returns : tie.Need-returns
+pub returns : goal.returns
 unfolding open_length secret_length stored_restarts
 returns c form p f q =
-    let valued = c.before.before.before in
-    let third = valued.before.before.before in
-    let a = third.before.before.before.before.args in
+    let a = c.args in
     let half = a.half.now in
     let i = a.i in
-    let e₁ = third.before.before.word_at.ensures in
-    let e₂ = third.before.word-at2.ensures in
-    let e₃ = third.word-at3.ensures in
+    let e₁ = c.word_at-first.ensures in
+    let e₂ = c.word_at-second.ensures in
+    let e₃ = c.word_at-third.ensures in
     let p₂ : i + 4 ≡ 4 * secret_word form = omega arith in
     let p₃ : i + 8 ≡ 4 * restarts_word form = omega arith in
-    let x = value half (open_word form) i _ _ p e₁ valued.before.before.value_of.ensures.0 in
-    let y = value half (secret_word form) (i + 4) _ _ p₂ e₂ valued.before.value-of2.ensures.0 in
-    let z = value half (restarts_word form) (i + 8) _ _ p₃ e₃ valued.value-of3.ensures.0 in
+    let x = value half (open_word form) i _ _ p e₁ c.value_of-open.ensures.0 in
+    let y = value half (secret_word form) (i + 4) _ _ p₂ e₂ c.value_of-secret.ensures.0 in
+    let z = value half (restarts_word form) (i + 8) _ _ p₃ e₃ c.value_of-restarts.ensures.0 in
     let s : i + 32 - 4 ≡ head_length form = omega (arith, words_more form) in (
-      good form half _ _ _ _ _ _ _ _ f s (kind half (open_word form) i _ _ p e₁ c.before.before.kind_of.ensures) (kind half (secret_word form) (i + 4) _ _ p₂ e₂ c.before.kind-of2.ensures)
-          (kind half (restarts_word form) (i + 8) _ _ p₃ e₃ c.kind-of3.ensures) x y z,
+      good form half _ _ _ _ _ _ _ _ f s (kind half (open_word form) i _ _ p e₁ c.kind_of.ensures) (kind half (secret_word form) (i + 4) _ _ p₂ e₂ c.kind_of-2.ensures)
+          (kind half (restarts_word form) (i + 8) _ _ p₃ e₃ c.kind_of-3.ensures) x y z,
       s,
       q,
       ap (λ (v : ℕ). 4 * v) x,
       ap (λ (v : ℕ). 4 * v) y,
       z,
     )
-
-pub read_words_spec : {M : Type 1} → statement M
-read_words_spec =
-    tie.close
-    (tie.spec
-    (λ c κs. search rules)
-    (λ c. search rules)
-    (λ c κs. search rules)
-    (λ c. search rules)
-    (λ c κs. search rules)
-    (λ c. search rules)
-    (λ c. search rules)
-    (λ c κs. search rules)
-    (λ c. search rules)
-    (λ c κs. search rules)
-    (λ c. search rules)
-    (λ c κs. search rules)
-    (λ c κs. search rules)
-    (λ c κs. search rules)
-    (λ c κs. search rules)
-    (λ c. search rules)
-    (λ c. search rules)
-    (λ c. search rules)
-    returns)
