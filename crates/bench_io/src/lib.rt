@@ -2,14 +2,34 @@
 // arguments, and files.
 #![tactic(auto)]
 
-ghost use Rattle.std.specs.Prelude.{◌≡◌, ◌+◌, ◌^◌, ◌≤◌, ◌<◌};
-ghost use Rattle.io.specs.Counts.{IsPrefixLen};
+ghost use Rattle.std.specs.Prelude.{◌≡◌, ◌+◌, ◌^◌, ◌≤◌, ◌<◌, length, take};
 
-use libc::{STDERR_FILENO, STDOUT_FILENO};
+use std::env::{Env, FillError};
+use std::fs::Files;
+use std::io::{Eprint, Input, Print, Read, Write};
+use std::{fs, io, str};
 use stops::{Stop, stop_number};
 
 // Linux passes no longer argument.
 const ARGUMENT_LIMIT: usize = 131_072;
+
+// Linux's numbers of a read that was interrupted, and of bytes that are no text.
+const INTERRUPTED: i32 = 4;
+
+const NO_TEXT: i32 = 84;
+
+// What a program of the bench is run with: its arguments, standard input, standard output and standard error, which takes bytes that are
+// no text too, such as a file's name.
+pub trait Console: Env + Input + Print + Eprint {
+    // Writes a line of words, or a part of one, to standard error.
+    fn complain(&self, line: &[u8]);
+}
+
+impl Console for HostRuntime {
+    fn complain(&self, line: &[u8]) {
+        let _ = self.stderr().write_all(line);
+    }
+}
 
 // Whether an argument is a decimal number, and the number, or one more than the most that was asked for if it is larger.
 #[derive(Clone, Copy)]
@@ -53,47 +73,51 @@ fn number_in(digits: &[u8], most: usize) -> Number
     }
 }
 
+// How many arguments there are, the program's own name among them.
+pub fn argument_count(rt: &impl Env) -> usize {
+    for i in 0..usize::MAX {
+        if let Err(FillError::NotPresent) = rt.arg(i, &mut []) {
+            return i;
+        }
+    }
+    usize::MAX
+}
+
 // Argument i as a number; one that is missing is none.
-pub fn number_argument(i: usize, most: usize) -> Number
+pub fn number_argument(rt: &impl Env, i: usize, most: usize) -> Number
     requires { most < 2 ^ 32 }
     ensures { result.value ≤ most + 1 }
 {
     let mut digits = [0u8; ARGUMENT_LIMIT];
-    let n = os::arg(i, &mut digits);
-    number_in(&digits[..n], most)
-}
-
-// Writes a line of words to standard error.
-pub fn complain(line: &[u8]) {
-    io::write_all(STDERR_FILENO, line);
+    match rt.arg(i, &mut digits) {
+        Ok(n) => number_in(&digits[..n], most),
+        Err(_) => NO_NUMBER,
+    }
 }
 
 // Writes `refused` and the number of a stop to standard error.
-pub fn refuse(stop: Stop) {
-    complain(b"refused ");
-    io::print_decimal(STDERR_FILENO, stop_number(stop) as u64);
-    complain(b"\n");
+pub fn refuse(rt: &impl Eprint, stop: Stop) {
+    let number = stop_number(stop);
+    let _ = eprintln!(rt; "refused {number}");
 }
 
 // Says that standard output took not all.
-pub fn not_written() {
-    complain(b"standard output could not be written whole\n");
+pub fn not_written(rt: &impl Console) {
+    rt.complain(b"standard output could not be written whole\n");
 }
 
 // Writes bytes to standard output, or complains.
-pub fn write_out(bytes: &[u8]) {
-    if !io::write_all(STDOUT_FILENO, bytes) {
-        not_written();
+pub fn write_out(rt: &impl Console, bytes: &[u8]) {
+    if rt.write_all(bytes).is_err() {
+        not_written(rt);
     }
 }
 
 // As `refuse`, but to standard output, where a refusal is the answer that was asked for.
-pub fn answer_refused(stop: Stop) {
-    let words = io::write_all(STDOUT_FILENO, b"refused ");
-    let number = io::print_decimal(STDOUT_FILENO, stop_number(stop) as u64);
-    let end = io::write_all(STDOUT_FILENO, b"\n");
-    if !words | !number | !end {
-        not_written();
+pub fn answer_refused(rt: &impl Console, stop: Stop) {
+    let number = stop_number(stop);
+    if println!(rt; "refused {number}").is_err() {
+        not_written(rt);
     }
 }
 
@@ -104,30 +128,104 @@ pub struct Loaded {
     pub length: usize,
 }
 
-// Says why a file, which is to hold `what`, was not read; the system's reason is in errno.
-pub fn not_read(what: &[u8], path: &[u8]) -> Loaded
+// What std prints of an error, without the number that it writes behind the system's words.
+fn without_number(text: &str) -> &str {
+    match text.split_once(" (os error ") {
+        Some((words, _)) => words,
+        None => text,
+    }
+}
+
+// Ends a line with why a call failed, in the system's words.
+fn complain_why(rt: &impl Console, error: io::Error) {
+    let mut text = [0u8; 256];
+    let mut room = &mut text[..];
+    let _ = write!(room, "{error}");
+    let n = 256usize.saturating_sub(room.len());
+    if let Ok(words) = str::from_utf8(&text[..n]) {
+        rt.complain(without_number(words).as_bytes());
+    }
+    rt.complain(b"\n");
+}
+
+// Says why a file was not opened or read.
+pub fn fail(rt: &impl Console, path: &[u8], error: io::Error) {
+    rt.complain(path);
+    rt.complain(b": ");
+    complain_why(rt, error);
+}
+
+// Says why a file, which is to hold `what`, was not read.
+pub fn not_read(rt: &impl Console, what: &[u8], path: &[u8], error: io::Error) -> Loaded
     ensures { result.length ≡ 0 }
 {
-    complain(what);
-    os::fail(path);
+    rt.complain(what);
+    fail(rt, path, error);
     Loaded {
         is_read: false,
         length: 0,
     }
 }
 
-// Reads an open file. That its end was reached, or the buffer's, and no error met on the way, one more read tells.
-pub fn read_open(file: i32, what: &[u8], path: &[u8], buffer: &mut [u8]) -> Loaded
-    ensures { IsPrefixLen result.length buffer.new }
-{
-    let length = io::read_full(file, buffer);
-    let mut byte = [0u8; 1];
-    let more = libc::read(file, &mut byte);
-    if (more < 0) | ((more > 0) & (length < buffer.len())) {
-        return not_read(what, path);
+// A file's name as text: std takes no other.
+pub fn file_name(path: &[u8]) -> io::Result<&str> {
+    match str::from_utf8(path) {
+        Ok(name) => Ok(name),
+        Err(_) => Err(io::Error::from_raw_os_error(NO_TEXT)),
     }
-    Loaded {
-        is_read: true,
-        length,
+}
+
+pub fn open_read<R: Files>(rt: &R, path: &[u8]) -> io::Result<R::File> {
+    fs::open(rt, file_name(path)?)
+}
+
+// Reads until the buffer is full, the input ends or a read fails, and answers how many bytes are at the buffer's front.
+pub fn read_full(from: &mut impl Read, buffer: &mut [u8]) -> usize
+    ensures { (result ≤ length buffer.new) × (result ≡ length (take result buffer.new)) }
+{
+    let mut done = 0;
+    while done < buffer.len() {
+        match from.read(&mut buffer[done..]) {
+            Ok(n) if n > 0 => done += n,
+            _ => break,
+        }
+    }
+    done
+}
+
+// Reads an open file. That its end was reached, or the buffer's, and no error met on the way, one more read tells.
+pub fn read_open(
+    rt: &impl Console,
+    file: &mut impl Read,
+    what: &[u8],
+    path: &[u8],
+    buffer: &mut [u8],
+) -> Loaded
+    ensures { (result.length ≤ length buffer.new) × (result.length ≡ length (take result.length buffer.new)) }
+{
+    let length = read_full(file, buffer);
+    let mut byte = [0u8; 1];
+    match file.read(&mut byte) {
+        Ok(more) if more > 0 && length < buffer.len() => {
+            not_read(rt, what, path, io::Error::from_raw_os_error(INTERRUPTED))
+        }
+        Ok(_) => Loaded {
+            is_read: true,
+            length,
+        },
+        Err(error) => not_read(rt, what, path, error),
+    }
+}
+
+// Reads a file as far as there is room, or says why it was not opened.
+pub fn read_file<R: Console + Files>(rt: &R, path: &[u8], buffer: &mut [u8]) -> Loaded
+    ensures { (result.length ≤ length buffer.new) × (result.length ≡ length (take result.length buffer.new)) }
+{
+    match open_read(rt, path) {
+        Ok(mut file) => Loaded {
+            is_read: true,
+            length: read_full(&mut file, buffer),
+        },
+        Err(error) => not_read(rt, b"", path, error),
     }
 }
