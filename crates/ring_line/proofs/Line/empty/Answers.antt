@@ -2,12 +2,8 @@
 use mathlib.Core.Path.{refl}
 use native.Mathlib.Omega.{arith}
 use Rattle.octets.specs.Octets.{put}
-use Rattle.ring_line.proofs.Line.empty.Statement.{statement}
-use Rattle.ring_line.proofs.Line.empty.Tie as tie
+use Rattle.ring_line.proofs.Line.empty.Goals as goal
 
-returns : tie.Need-returns
+pub returns : goal.returns
 unfolding put
 returns c = record { room = refl; short = omega arith; holds = refl }
-
-pub empty_spec : {M : Type 1} → statement M
-empty_spec = tie.close (tie.spec returns)
