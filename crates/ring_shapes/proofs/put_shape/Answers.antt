@@ -4,7 +4,6 @@ use mathlib.Core.Path.{◌≡◌, sym, ap, ◌∙◌}
 use mathlib.Core.List.{List}
 use native.Mathlib.Omega.{arith}
 use lib.ListN.{length}
-use borrow.Author.Rules.{rules}
 use Rattle.octets.specs.Limits.{slot_length}
 use Rattle.ring.specs.Ring.{page_before}
 use Rattle.ring.proofs.SizeLaws.{Sized, page_ends}
@@ -14,8 +13,7 @@ use Rattle.ring_shapes.specs.Inner.{ToShape}
 use Rattle.ring_shapes.proofs.PlaceLaws.{Place}
 use Rattle.ring_shapes.proofs.RingLaws.{with_length}
 use Rattle.ring_shapes.proofs.CallLaws.{right, place_in, number_alone, number_pending}
-use Rattle.ring_shapes.proofs.put_shape.Statement.{statement}
-use Rattle.ring_shapes.proofs.put_shape.Tie as tie
+use Rattle.ring_shapes.proofs.put_shape.Goals as goal
 
 module _ {pages slots number : ℕ} {ring : List ℕ} (h : ToShape pages slots number ring) where
   -- the page of the shape, and its place there
@@ -53,56 +51,35 @@ module _ {pages slots number : ℕ} {ring : List ℕ} (h : ToShape pages slots n
         e ∙ ap (λ (r : List ℕ). with_records r slots p 1) (first_is ∙ ap (λ (r : List ℕ). with_records r slots (page_before pages p) slots) h.none_yet)
         ∙ sym (number_pending place o)
 
-add_page : tie.Need-overflow-add-page
-add_page c = omega (arith, (size c.before.requires).numbers.few_slots)
+pub overflow_add-page : goal.overflow_add-page
+overflow_add-page c = omega (arith, (size c.requires).numbers.few_slots)
 
-add_records : tie.Need-overflow-add-records
-add_records c = omega (arith, (size c.before.requires).numbers.few_slots)
+pub overflow_add-records : goal.overflow_add-records
+overflow_add-records c = omega (arith, (size c.requires).numbers.few_slots)
 
-put_records_requires : tie.Need-put-records-requires
-put_records_requires c κs =
-    let h = c.before.before.before.requires in
+pub put_records-requires : goal.put_records-requires
+put_records-requires c =
+    let h = c.requires in
     omega (arith, ends h, (place h).shape_in)
 
-returns : tie.Need-returns
-returns c =
-    alone_is c.before.before.before.before.before.before.requires _ c.before.before.before.before.if1.true c.before.before.put-records.ensures
+pub returns-then-records-gt0 : goal.returns-then-records-gt0
+returns-then-records-gt0 c =
+    alone_is c.requires _ c.if-records-gt0.true c.put_records.ensures
 
-page_before_requires : tie.Need-page-before-requires
-page_before_requires c κs =
-    let h = c.before.before.requires in
+pub page_before-before-requires : goal.page_before-before-requires
+page_before-before-requires c =
+    let h = c.requires in
     omega (arith, (place h).page_in, (place h).number)
 
-put_records_requires_2 : tie.Need-put-records-requires-2
-put_records_requires_2 c κs = rw c.before.page_before.ensures (omega (arith, before_ends c.before.before.before.before.requires))
+pub put_records-requires-2 : goal.put_records-requires-2
+put_records-requires-2 c = rw c.page_before-before.ensures (omega (arith, before_ends c.requires))
 
-put_records_requires_3 : tie.Need-put-records-requires-3
-put_records_requires_3 c κs =
-    let put = c.before.before.before in
-    let h = put.before.before.before.before.before.requires in
-    omega (arith, ends h, (size h).numbers.some_slots, first_length h _ _ put.before.before.page_before.ensures put.put-records2.ensures)
+pub put_records-requires-3 : goal.put_records-requires-3
+put_records-requires-3 c =
+    let h = c.requires in
+    omega (arith, ends h, (size h).numbers.some_slots, first_length h _ _ c.page_before-before.ensures c.put_records-2.ensures)
 
-returns_2 : tie.Need-returns-2
-returns_2 c =
-    let put = c.before.before.before.before.before.before in
-    let h = put.before.before.before.before.before.requires in
-    pending_is h _ _ put.before.before.page_before.ensures put.put-records2.ensures _ put.before.before.before.if1.false c.before.before.put-records3.ensures
-
-pub put_shape_spec : {M : Type 1} → statement M
-put_shape_spec =
-    tie.close
-    (tie.spec
-    (λ c. search rules)
-    add_page
-    (λ c. search rules)
-    (λ c. search rules)
-    add_records
-    (λ c. search rules)
-    put_records_requires
-    (λ c. search rules)
-    returns
-    page_before_requires
-    put_records_requires_2
-    put_records_requires_3
-    (λ c. search rules)
-    returns_2)
+pub returns : goal.returns
+returns c =
+    let h = c.requires in
+    pending_is h _ _ c.page_before-before.ensures c.put_records-2.ensures _ c.if-records-gt0.false c.put_records-3.ensures
