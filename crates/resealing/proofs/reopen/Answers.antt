@@ -24,6 +24,16 @@ overflow_add-end-2 c =
     let facts : GoodHead part_limit (form_of c.args.half.now) c.args.half.now = head_facts part_limit (form_of c.args.half.now) c.args.half.now c.requires.3 in
     omega (arith, c.requires.4.start, c.requires.4.open_part, c.requires.4.secret, facts.open_small, facts.secret_small, head_small (form_of c.args.half.now))
 
+pub part-requires : goal.part-requires
+part-requires c =
+    let facts : GoodHead part_limit (form_of c.args.half.now) c.args.half.now = head_facts part_limit (form_of c.args.half.now) c.args.half.now c.requires.3 in
+    omega (arith, c.requires.4.start, c.requires.4.open_part, c.requires.4.secret, facts.fits)
+
+pub part-requires-2 : goal.part-requires-2
+part-requires-2 c =
+    let facts : GoodHead part_limit (form_of c.args.half.now) c.args.half.now = head_facts part_limit (form_of c.args.half.now) c.args.half.now c.requires.3 in
+    omega (arith, c.open_secret.auto.state, c.requires.4.secret, facts.secret_small, c.requires.8)
+
 pub seal-requires : goal.seal-requires
 seal-requires c =
     let facts : GoodHead part_limit (form_of c.args.half.now) c.args.half.now = head_facts part_limit (form_of c.args.half.now) c.args.half.now c.requires.3 in
@@ -46,6 +56,6 @@ pub returns : goal.returns
 returns c key e tagged =
     let a = c.args in
     let p = c.requires in
-    reseals key a.latest.now a.half.now a.nonce.now p.3 _ a.staging.now _ a.state.now _ _ _ _ a.head.start a.head.packet a.head.«open» a.head.secret a.head.restarts (λ i. (c.shared_slice_known-2-1.given i).fits) tagged
+    reseals key a.latest.now a.half.now a.nonce.now p.3 _ a.staging.now _ a.state.now _ _ _ _ a.head.start a.head.packet a.head.«open» a.head.secret a.head.restarts (λ i. (c.type_inv.half i).fits) tagged
     p.4.start p.4.packet p.4.open_part p.4.secret p.4.restarts p.8 (c.open_secret.ensures key e) c.open_part.ensures.0 c.part-2.ensures.0 c.part.ensures.0
     (c.seal.ensures key e)
