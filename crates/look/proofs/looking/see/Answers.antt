@@ -27,4 +27,8 @@ returns-in-Pass c =
     sees_half a.pages a.slots a.ring.now a.fram.now a.key.now _ _ (p.record_is _ c.«record».ensures.0) p.none_applies c.see_half.ensures
 
 pub record-requires : goal.record-requires
-record-requires c = let p = found_passed c in (p.ring_right, p.within)
+record-requires c =
+    let a = c.args in
+    let p : Passed a.pages a.slots a.ring.now a.fram.now a.key.now c.find-found.result =
+      passed a.pages a.slots a.ring.now a.fram.now a.key.now _ c.find-found.ensures (ap check_number c.in-Pass.is) in
+    (p.ring_right, p.within)

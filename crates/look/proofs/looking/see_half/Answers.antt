@@ -6,7 +6,6 @@ use Prim.Native.Nat.{ℕ, ◌+◌, ◌*◌, ◌≤◌}
 use native.Mathlib.Omega.{arith}
 use lib.ListN.{length}
 use Rattle.octets.specs.Limits.{fram_limit}
-use Rattle.octets.specs.Octets.{part}
 use Rattle.stops.specs.Stops.{first_of}
 use Rattle.stops.specs.View.{check_number}
 use Rattle.ring.specs.Ring.{half_named}
@@ -23,7 +22,9 @@ use Rattle.look.proofs.LookLaws.{half_checked}
 use Rattle.look.proofs.looking.see_half.Goals as goal
 
 -- said of the half that the record names
-module _ (newest fram : List ℕ) (h : ℕ) (x : h ≡ half_named newest) (half : List ℕ) (y : half ≡ half_at fram h) where half_is : half ≡ half_at fram (half_named newest) half_is = y ∙ ap (half_at fram) x
+module _ (newest fram : List ℕ) (h : ℕ) (x : h ≡ half_named newest) (half : List ℕ) (y : half ≡ half_at fram h) where
+  half_is : half ≡ half_at fram (half_named newest)
+  half_is = y ∙ ap (half_at fram) x
 
   found : {o : Option ℕ} (n at m : ℕ) → none ≡ o → n ≡ stored_restarts (form_of half) half → at ≡ head_length (form_of half) → m ≡ open_length (form_of half) half
       → Sees (record { looked = Restarts n; offset = h * half_length fram + at; length = m }) o fram (half_named newest)
