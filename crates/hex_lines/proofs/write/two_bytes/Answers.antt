@@ -3,18 +3,13 @@ use mathlib.Core.Path.{◌≡◌, ap₂}
 use mathlib.Core.List.{[], ◌∷◌}
 use Prim.Native.Nat.{ℕ, ◌/◌, ◌%◌}
 use native.Mathlib.Omega.{arith}
-use borrow.Author.Rules.{rules}
 use Rattle.octets.specs.Octets.{bytes}
-use Rattle.hex_lines.proofs.write.two_bytes.Statement.{statement}
-use Rattle.hex_lines.proofs.write.two_bytes.Tie as tie
+use Rattle.hex_lines.proofs.write.two_bytes.Goals as goal
 
-returns : tie.Need-returns
+pub returns : goal.returns
 unfolding bytes
 returns c =
     let n = c.args.n in
     let high : n / 256 ≡ n / 256 % 256 = omega arith in
     let low : n % 256 ≡ n / 1 % 256 = omega arith in
     ap₂ (λ (h l : ℕ). h ∷ l ∷ []) high low
-
-pub two_bytes_spec : {M : Type 1} → statement M
-two_bytes_spec = tie.close (tie.spec (λ c. search rules) (λ c. search rules) returns)

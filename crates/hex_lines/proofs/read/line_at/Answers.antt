@@ -7,7 +7,6 @@ use native.Mathlib.Nat.{pos_of_ne-zero}
 use native.Mathlib.Omega.{arith}
 use lib.Dec.{eqb}
 use lib.ListN.{length, get_or}
-use borrow.Author.Rules.{rules}
 use Rattle.octets.specs.Octets.{part}
 use Rattle.hex_digits.specs.Digits.{all_digits, decoded}
 use Rattle.hex_lines.specs.Format.{mark, sum}
@@ -17,8 +16,7 @@ use Rattle.hex_lines.proofs.ReadLaws.{begins_inside, closed_inside, checksum_is}
 use Rattle.hex_lines.specs.declared.read.Line.{Line}
 use Rattle.hex_lines.specs.declared.read.Summed.{Summed}
 use Rattle.hex_lines.specs.declared.read.Summed.TheVariants.{NoDigit, Sum}
-use Rattle.hex_lines.proofs.read.line_at.Statement.{statement}
-use Rattle.hex_lines.proofs.read.line_at.Tie as tie
+use Rattle.hex_lines.proofs.read.line_at.Goals as goal
 
 two_truths : (t : Bool) → t ≡ true → t ≡ false → ⊥
 two_truths t e f = let z : ◌≡◌ {A = ℕ} 0 1 = cc in omega arith
@@ -54,55 +52,27 @@ module _ (s : List ℕ) (l : Line) (o : LineOf s l) where
         checksum = checksum_is s n (p.1 ∙ (λ i. sum (decoded (D i) (k i / 2))));
       }
 
-returns : tie.Need-returns
-returns c g = omega (arith, begins_inside _ g)
+pub returns-then-s-lt-DATA_AT : goal.returns-then-s-lt-DATA_AT
+returns-then-s-lt-DATA_AT c g = omega (arith, begins_inside _ g)
 
-returns_2 : tie.Need-returns-2
-returns_2 c g = c.if2.true g.marked
+pub returns-then-s-ne-MARK : goal.returns-then-s-ne-MARK
+returns-then-s-ne-MARK c g = c.if-s-ne-MARK.true g.marked
 
-returns_3 : tie.Need-returns-3
-returns_3 c g = omega (arith, g.closed, c.before.before.line_of.ensures.tail)
+pub returns-then-line-eq0 : goal.returns-then-line-eq0
+returns-then-line-eq0 c g = omega (arith, g.closed, c.line_of-line.ensures.tail)
 
-returns_4 : tie.Need-returns-4
-returns_4 c g =
-    let line = c.before.before.before.before in
-    two_truths _ (sym c.before.shape_wrong.ensures ∙ c.if4.true) (shape_of _ _ line.line_of.ensures ∙ g.shape)
+pub returns-then-shape_wrong : goal.returns-then-shape_wrong
+returns-then-shape_wrong c g =
+    two_truths _ (sym c.shape_wrong.ensures ∙ c.if-shape_wrong.true) (shape_of _ _ c.line_of-line.ensures ∙ g.shape)
 
-part_requires : tie.Need-part-requires
-part_requires c κs =
-    let line = c.before.before.before.before.before in
-    omega (arith, inside _ _ line.line_of.ensures c.before.before.before.if3.false, line.line_of.ensures.length)
+pub part-requires : goal.part-requires
+part-requires c =
+    omega (arith, inside _ _ c.line_of-line.ensures c.if-line-eq0.false, c.line_of-line.ensures.length)
 
-returns_5 : tie.Need-returns-5
-returns_5 c g =
-    let called = c.before.before in
-    let line = called.before.before.before.before.before.before.before in
-    no_line _ _ line.line_of.ensures _ _ called.before.part.ensures.0 called.digit-sum.ensures c.enum_told.given.1 g
+pub returns-in-NoDigit : goal.returns-in-NoDigit
+returns-in-NoDigit c g =
+    no_line _ _ c.line_of-line.ensures _ _ c.part.ensures.0 c.digit_sum.ensures c.in-NoDigit.is g
 
-returns_6 : tie.Need-returns-6
-returns_6 c =
-    let called = c.before.before.before in
-    let fits = called.before.before.before in
-    let shaped = fits.before in
-    let line = shaped.before.before.before in
-    found _ _ line.line_of.ensures _ _ _ line.before.if2.false shaped.before.if3.false (sym shaped.shape_wrong.ensures ∙ fits.if4.false) called.before.part.ensures.0 called.before.part.ensures.1 called.digit-sum.ensures c.before.total.given.1
-
-pub line_at_spec : {M : Type 1} → statement M
-line_at_spec =
-    tie.close
-    (tie.spec
-    returns
-    (λ c. search rules)
-    returns_2
-    (λ c κs. search rules)
-    returns_3
-    (λ c κs. search rules)
-    returns_4
-    (λ c. search rules)
-    (λ c. search rules)
-    part_requires
-    (λ c κs. search rules)
-    (λ c. search rules)
-    (λ c. search rules)
-    returns_5
-    returns_6)
+pub returns-in-Sum : goal.returns-in-Sum
+returns-in-Sum c =
+    found _ _ c.line_of-line.ensures _ _ _ c.if-s-ne-MARK.false c.if-line-eq0.false (sym c.shape_wrong.ensures ∙ c.if-shape_wrong.false) c.part.ensures.0 c.part.ensures.1 c.digit_sum.ensures c.in-Sum.is
