@@ -5,7 +5,6 @@ use Prim.Native.Nat.{ℕ, ◌+◌, ◌-◌, ◌*◌, ◌≤◌}
 use native.Mathlib.Omega.{arith}
 use borrow.Rule.Slice.PartMut.{put_mid}
 use lib.ListN.{length, take, drop, length-drop}
-use borrow.Author.Rules.{rules}
 use Rattle.octets.specs.Octets.{put}
 use Rattle.octets.proofs.Lent.{lent}
 use Rattle.octets.proofs.Tables.{length_table}
@@ -18,13 +17,7 @@ use Rattle.intel_hex.specs.declared.import.Reading.{Reading}
 use Rattle.hex_lines.specs.declared.read.Line.{Line}
 use Rattle.intel_hex.proofs.TextLaws.{begun}
 use Rattle.intel_hex.proofs.ImportLaws.{image_data, image_other, data_decoded}
-use Rattle.intel_hex.proofs.import.store_line.Statement.{statement}
-use Rattle.intel_hex.proofs.import.store_line.Tie as tie
-
-rest_requires : tie.Need-rest-requires
-rest_requires c κs =
-    let start = c.before.before.before.before.before in
-    omega (arith, (begun start.args.s.now start.requires.0).inside)
+use Rattle.intel_hex.proofs.import.store_line.Goals as goal
 
 -- the data fit the image, and their digits stand in the text
 record Room (s image : List ℕ) (l : Line) (p : ℕ) : Type 0 where
@@ -38,18 +31,6 @@ room s image r l p g o h k e =
     let n : p + l.length ≡ data_place r s + data_length s = ap₂ (λ (x y : ℕ). x + y) (e ∙ ap (λ (x : ℕ). r.upper * boundary + x) o.address) o.length in
     record { fits = omega (arith, f, n); digits = rw length-drop (omega (arith, (begun s g).inside, o.length)) }
 
-placed : (c : tie.After-data-place) → Room c.before.before.before.before.before.args.s.now c.before.before.before.before.before.args.image.now c.before.before.before.before.before.args.line c.data_place.result
-placed c =
-    let start = c.before.before.before.before.before in
-    let a = start.args in
-    room a.s.now a.image.now a.reading a.line _ start.requires.0 start.requires.1 start.requires.3 c.before.if1.true c.data_place.ensures.0
-
-decode_requires : tie.Need-decode-requires
-decode_requires c κs =
-    let k = placed c.before.before in
-    let e = c.before.rest.ensures in
-    (subst (λ (d : List ℕ). 2 * c.before.before.before.before.before.before.before.args.line.length ≤ length d) (sym e) k.digits, omega (arith, k.fits))
-
 -- the part of the image that was lent came back with the data at its front
 put_data : (s image zs d : List ℕ) (r : Reading) (l : Line) (p : ℕ) → LineOf s l → l.kind ≡ data_line → p ≡ r.upper * boundary + l.address → Room s image l p
     → d ≡ drop 9 s → zs ≡ put (take (length image - p) (drop p image)) 0 (decoded d l.length) → put_mid p (length image - p) image zs ≡ image_after r image s
@@ -60,30 +41,31 @@ put_data s image zs d r l p o k e f ed ez =
     ∙ ap₂ (put image) (e ∙ ap (λ (x : ℕ). r.upper * boundary + x) o.address) (ap (decoded (drop 9 s)) o.length ∙ data_decoded s)
     ∙ image_data s image r (sym o.kind ∙ k)
 
-returns : tie.Need-returns
-returns c =
-    let called = c.before.before in
-    let rested = called.before.before in
-    let start = rested.before.before.before.before.before.before in
-    let a = start.args in
-    put_data a.s.now a.image.now _ _ a.reading a.line _ start.requires.1 rested.before.before.if1.true rested.before.data_place.ensures.0 (placed rested.before) rested.rest.ensures called.decode.ensures
+pub rest-requires : goal.rest-requires
+rest-requires c =
+    omega (arith, (begun c.args.s.now c.requires.0).inside)
 
-returns_2 : tie.Need-returns-2
-returns_2 c =
-    let start = c.before.before.before.before in
-    let a = start.args in
-    image_other a.s.now a.image.now a.reading (λ e. c.if1.false (start.requires.1.kind ∙ e))
+pub decode-requires : goal.decode-requires
+decode-requires c =
+    let k = room _ _ c.args.reading c.args.line _ c.requires.0 c.requires.1 c.requires.3 c.if-line-eq-DATA_LINE.true c.data_place-place.ensures.0 in
+    let e = c.rest.ensures in
+    (subst (λ (d : List ℕ). 2 * c.args.line.length ≤ length d) (sym e) k.digits, omega (arith, k.fits))
 
-pub store_line_spec : {M : Type 1} → statement M
-store_line_spec =
-    tie.close
-    (tie.spec
-    (λ c κs. omega (arith, c.before.before.before.before.requires.1.low))
-    rest_requires
-    (λ c. omega (arith, (placed c.before).fits))
-    (λ c. omega (arith, (placed c.before).fits))
-    (λ c. search rules)
-    decode_requires
-    (λ c. search rules)
-    returns
-    returns_2)
+pub returns-then-line-eq-DATA_LINE : goal.returns-then-line-eq-DATA_LINE
+returns-then-line-eq-DATA_LINE c =
+    let a = c.args in
+    put_data a.s.now a.image.now _ _ a.reading a.line _ c.requires.1 c.if-line-eq-DATA_LINE.true c.data_place-place.ensures.0 (room _ _ c.args.reading c.args.line _ c.requires.0 c.requires.1 c.requires.3 c.if-line-eq-DATA_LINE.true c.data_place-place.ensures.0) c.rest.ensures c.decode.ensures
+
+pub returns-else-line-eq-DATA_LINE : goal.returns-else-line-eq-DATA_LINE
+returns-else-line-eq-DATA_LINE c =
+    let a = c.args in
+    image_other a.s.now a.image.now a.reading (λ e. c.if-line-eq-DATA_LINE.false (c.requires.1.kind ∙ e))
+
+pub data_place-place-requires : goal.data_place-place-requires
+data_place-place-requires c = omega (arith, c.requires.1.low)
+
+pub slice_bounds-decode-count : goal.slice_bounds-decode-count
+slice_bounds-decode-count c = omega (arith, (room _ _ c.args.reading c.args.line _ c.requires.0 c.requires.1 c.requires.3 c.if-line-eq-DATA_LINE.true c.data_place-place.ensures.0).fits)
+
+pub slice_bounds-decode-start : goal.slice_bounds-decode-start
+slice_bounds-decode-start c = omega (arith, (room _ _ c.args.reading c.args.line _ c.requires.0 c.requires.1 c.requires.3 c.if-line-eq-DATA_LINE.true c.data_place-place.ensures.0).fits)
