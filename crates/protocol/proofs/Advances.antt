@@ -20,7 +20,6 @@ use Rattle.ring.proofs.RingLaws.{erase_pending}
 use Rattle.ring.proofs.TurnLaws.{before_laws}
 use Rattle.ring.proofs.SizeLaws.{sized}
 use Rattle.checkpoint.specs.Checkpoint.{Form, Checkpoint, empty_length, sealed_length, sealed}
-use Rattle.checkpoint.specs.Half.{stored}
 use Rattle.checkpoint.specs.Fram.{fram_wrong, half_length}
 use Rattle.checkpoint.proofs.FramLaws.{Image, image_kept, fram_kept, half_kept, half_within, halves_apart}
 use Rattle.protocol.specs.Types.{Firmware, Origin, Save, PowerUp, Session, Phase, EraseFirst, Words, Record, Done, Progress, GoingOn}

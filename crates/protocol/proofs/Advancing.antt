@@ -5,7 +5,6 @@ use mathlib.Core.Bool.{false, not, ◌||◌}
 use mathlib.Core.Option.{Option, some, none}
 use mathlib.Core.List.{List, [], ◌∷◌}
 use native.Mathlib.Omega.{arith}
-use lib.ListN.{length}
 use lib.Dec.{eqb, ltb, leb, T}
 use Rattle.stops.proofs.Laws.{neither, passes}
 use Rattle.ring.specs.Ring.{ring_wrong, page_erased}
@@ -13,7 +12,7 @@ use Rattle.checkpoint.specs.Checkpoint.{Form, Checkpoint, empty_length}
 use Rattle.checkpoint.specs.Fram.{half_length}
 use Rattle.protocol.specs.Types.{Firmware, Save, PowerUp, Origin, Phase, EraseFirst, Words, Record, EraseAfter, Done, Job}
 use Rattle.protocol.specs.Calls.{Setup, advanced_by, Sizes, Advances}
-use Rattle.protocol.specs.Operations.{finished, session_of, in_phase, phase_wrong, ended, recorded, store, advance, job_wrong, advance_stop, advance_by}
+use Rattle.protocol.specs.Operations.{finished, session_of, in_phase, phase_wrong, ended, store, advance, job_wrong, advance_stop, advance_by}
 use Rattle.protocol.specs.Journal.{Journal, Draft, Store, made, advanced, entered}
 use Rattle.protocol.specs.History.{State, Handed, step, moved, refused, is_stopped, Keeps, left_by}
 use Rattle.protocol.proofs.Facts.{no_fact}

@@ -629,7 +629,7 @@ no_events u s = (tt, refl)
 
 updated_firmware : (u : Setup) (s : State) (next : Firmware) → (step u s (updated_to next)).firmware ≡ next
 unfolding step left_by
-updated_firmware u s next = refl
+updated_firmware u s _ = refl
 
 pub updates : Updates
 unfolding Updates updating power_ups_on fresh
@@ -858,7 +858,7 @@ fifth_place s x = newest_found smallest s 4 5 1 x refl
 
 updated_owed : (u : Setup) (s : State) (next : Firmware) → (step u s (updated_to next)).journal.owed ≡ s.journal.owed
 unfolding step left_by entered dropped
-updated_owed u s next = refl
+updated_owed u s _ = refl
 
 lost_long : (firmware : Firmware) (room : Form) (takes : Takes firmware room) (enough : empty_length firmware.form ≤ half_length (bench_fram room))
     → length (run smallest (bench_state firmware room) (interrupted firmware room)).fram ≡ length (bench_fram room)

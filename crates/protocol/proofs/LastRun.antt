@@ -12,8 +12,8 @@ use lib.Seq.{take-append_seam}
 use Rattle.ring.specs.Ring.{newest_record}
 use Rattle.checkpoint.specs.Checkpoint.{Checkpoint, own_tag, sealed}
 use Rattle.protocol.specs.Types.{PowerUp, Progress, GoingOn, Restored}
-use Rattle.protocol.specs.Calls.{Advances, Setup, Event, saved, powered_up, advanced_by, PowerLoss, lost_in_store}
-use Rattle.protocol.specs.Operations.{finished, ended, advance, newest_half}
+use Rattle.protocol.specs.Calls.{Advances, Setup, Event, saved, powered_up, advanced_by, PowerLoss, lost_in_store, updated_to}
+use Rattle.protocol.specs.Operations.{finished, advance, newest_half}
 use Rattle.protocol.specs.Journal.{Journal, Store, word, record_slot, erase_if, stores_of}
 use Rattle.protocol.specs.History.{State, Handed, step, run, refused, is_stopped, Keeps}
 use Rattle.protocol.specs.Recovery.{is_advance, Uninterrupted, answered, answers, with_handed, advances_of, Stands}
@@ -100,6 +100,7 @@ answering_advance u s (saved a) more t k l = absurd t
 answering_advance u s (powered_up a) more t k l = absurd t
 answering_advance u s PowerLoss more t k l = absurd t
 answering_advance u s (lost_in_store left) more t k l = absurd t
+answering_advance u s (updated_to next) more t k l = absurd t
 answering_advance u s (advanced_by a) more t k l = go (refused s (advanced_by a)) refl
   where
     go : (b : Bool) → refused s (advanced_by a) ≡ b → Answering u s (advanced_by a ∷ more) (answers u (advanced_by a ∷ more) s)

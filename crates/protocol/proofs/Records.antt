@@ -22,7 +22,6 @@ use Rattle.ring.proofs.RecordLaws.{is_record_of, length_record, nonce_of_record}
 use Rattle.checkpoint.specs.Checkpoint.{Form, Checkpoint, sealed}
 use Rattle.checkpoint.specs.Half.{Reads}
 use Rattle.checkpoint.proofs.HalfLaws.{reads_own}
-use Rattle.checkpoint.specs.Half.{stored}
 use Rattle.checkpoint.specs.Fram.{half_length}
 use Rattle.protocol.specs.Types.{Session, Phase, Record, EraseAfter, Done}
 use Rattle.protocol.specs.Calls.{Setup}

@@ -14,7 +14,6 @@ use Rattle.octets.proofs.Laws.{length_put, put_within}
 use Rattle.stops.proofs.Laws.{neither}
 use Rattle.checkpoint.proofs.SealedLaws.{part_sizes}
 use Rattle.checkpoint.specs.Checkpoint.{Checkpoint, sealed, sealed_length}
-use Rattle.checkpoint.specs.Half.{stored}
 use Rattle.checkpoint.specs.Fram.{fram_wrong, half_length}
 use Rattle.protocol.specs.Types.{Firmware, Origin, Job, Phase, EraseFirst, Words}
 use Rattle.protocol.specs.Calls.{Setup, SaveArguments}

@@ -1,0 +1,12 @@
+-- `gcm::seal_check` meets its contract: the conditions tried in turn are the list's. Assumes nothing.
+use Rattle.std.proofs.Common.{Bool, ◌||◌, [], ◌∷◌, ◌∙◌, ap₂}
+use Rattle.stops.specs.Stops.{first_of}
+use Rattle.gcm.specs.Calls.{seal_stop}
+use Rattle.gcm.proofs.Checks.{two_tried}
+use Rattle.gcm.proofs.seal_check.Goals as goal
+
+pub returns : goal.returns
+unfolding seal_stop
+returns c =
+    two_tried 3 4 _ _ c.stop_if.ensures c.stop_if-2.ensures
+    ∙ ap₂ (λ (a b : Bool). first_of ((3, a) ∷ (4, b) ∷ [])) (ap₂ ◌||◌ c.key_wrong.ensures c.nonce_wrong.ensures) c.buffers_wrong.ensures
