@@ -1,5 +1,6 @@
 -- A half with a good head and tag begins with the checkpoint that it reads as, sealed. Assumes nothing.
 use Prim.Native.Nat.{ℕ, zero, suc, ◌+◌, ◌*◌, ◌/◌, ◌≤◌}
+use Rattle.std.specs.Prelude.{eqb}
 use mathlib.Core.Path.{◌≡◌, refl, sym, ap, ap₂, ◌∙◌}
 use mathlib.Core.Bool.{true}
 use mathlib.Core.List.{List, [], ◌∷◌, ◌++◌}
@@ -64,7 +65,7 @@ words_again half b i zero [] l h e = refl
 words_again half b i (suc n) [] l h e = absurd (omega arith)
 words_again half b i zero (w ∷ ws) l h e = absurd (omega arith)
 words_again half b i (suc n) (w ∷ ws) l h e =
-    let k = and-true _ _ e in
+    let k = and-true (eqb (kind_at half i) w.0) (kinds_from half (suc i) ws) e in
     let m : 4 * suc i ≡ 4 * i + 4 = omega arith in
     let t : 4 + 4 * n ≡ 4 * suc n = omega arith in
     (λ j. word_again half (4 * i) w.0 (omega arith) b (eqb-true _ _ k.0) j ++ words_again half b (suc i) n ws (omega arith) (omega arith) k.1 j)

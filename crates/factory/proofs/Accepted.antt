@@ -99,7 +99,7 @@ zero_is n e = eqb-true n 0 (not-false _ e)
 
 is_first : (n : Newest) (half : ℕ) (form : Form) (restarts : ℕ) → not_first n half form restarts ≡ false → IsFirst n half form restarts
 unfolding not_first
-is_first n half form restarts e =
+is_first n h form restarts e =
     let a = neither _ _ e in
     let b = neither _ _ a.0 in
     let c = neither _ _ b.0 in
