@@ -56,7 +56,13 @@ fn ring_length(pages: usize, slots: usize) -> usize
 }
 
 // Makes a ring in the buffer and writes its line.
-fn write_line(rt: &impl Console, pages: usize, slots: usize, number: usize, ring: &mut [u8]) -> Check {
+fn write_line(
+    rt: &impl Console,
+    pages: usize,
+    slots: usize,
+    number: usize,
+    ring: &mut [u8],
+) -> Check {
     let check = ring_shape(pages, slots, number, ring);
     match check {
         Check::Stopped(stop) => Check::Stopped(stop),
