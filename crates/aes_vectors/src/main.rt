@@ -2,8 +2,9 @@
 // A line of a file is key, text and cipher in hexadecimal; one that begins with '#' is a comment.
 #![tactic(auto)]
 
+use bench_io::{Console, read_file};
 use hex_digits::decode;
-use libc::STDOUT_FILENO;
+use std::fs::Files;
 use vectors::until;
 
 const LINE_FEED: u8 = 0x0A;
@@ -100,25 +101,20 @@ fn count_lines(s: &[u8]) -> Tally {
 }
 
 // Prints the tally of a file, which is at most 65,536 bytes long.
-fn run(path: &[u8], name: &[u8]) {
-    let file = os::open_read(path);
-    if file < 0 {
-        os::fail(path);
+fn run<R: Console + Files>(rt: &R, path: &[u8], name: &[u8]) {
+    let mut text = [0u8; 65_536];
+    let loaded = read_file(rt, path, &mut text);
+    if !loaded.is_read {
         return;
     }
-    let mut text = io::large_buffer();
-    let n = io::read_full(file, &mut text);
-    libc::close(file);
-    let t = count_lines(&text[..n]);
-    io::print_decimal(STDOUT_FILENO, t.agree as u64);
-    io::write_all(STDOUT_FILENO, b" of ");
-    io::print_decimal(STDOUT_FILENO, t.all as u64);
-    io::write_all(STDOUT_FILENO, name);
-    io::write_all(STDOUT_FILENO, b" agree\n");
+    let t = count_lines(&text[..loaded.length]);
+    let _ = print!(rt; "{} of {}", t.agree, t.all);
+    let _ = rt.write_all(name);
+    let _ = rt.write_all(b" agree\n");
 }
 
-fn main() {
-    run(b"aes128.txt", b" known answers of NIST for AES-128");
-    run(b"aes256.txt", b" known answers of NIST for AES-256");
-    run(b"fips197.txt", b" worked examples of FIPS 197");
+fn main(rt: HostRuntime) {
+    run(&rt, b"aes128.txt", b" known answers of NIST for AES-128");
+    run(&rt, b"aes256.txt", b" known answers of NIST for AES-256");
+    run(&rt, b"fips197.txt", b" worked examples of FIPS 197");
 }

@@ -8,11 +8,11 @@ ghost use Rattle.octets.specs.Octets.{put};
 ghost use Rattle.trace.specs.Trace.{ring_length, fram_length, text_length, output};
 ghost use Rattle.bench_trace.specs.Argument.{length_named};
 
-use bench_io::complain;
-use libc::{STDIN_FILENO, STDOUT_FILENO};
+use bench_io::{Console, argument_count, read_full};
 use octets::limits::{LONG_KEY, SHORT_KEY};
 use octets::{copy, same};
 use ring_line::refused_line;
+use std::env::Env;
 use stops::Check;
 use trace::{FRAM_LENGTH, RING_LENGTH, TEXT_LENGTH, run_trace};
 
@@ -30,10 +30,10 @@ fn length_named(argument: &[u8]) -> usize
 }
 
 // The length of the key, or 0 where the arguments are wrong.
-fn key_length() -> usize
+fn key_length(rt: &impl Env) -> usize
     ensures { result ≤ long_key }
 {
-    let count = os::arg_count();
+    let count = argument_count(rt);
     if count < 2 {
         return LONG_KEY;
     }
@@ -41,8 +41,10 @@ fn key_length() -> usize
         return 0;
     }
     let mut argument = [0u8; 8];
-    let n = os::arg(1, &mut argument);
-    length_named(&argument[..n])
+    match rt.arg(1, &mut argument) {
+        Ok(n) => length_named(&argument[..n]),
+        Err(_) => 0,
+    }
 }
 
 // Runs a trace under the key of so many zero bytes in these buffers, writes what is to be printed to the front of the text, and answers its length.
@@ -66,26 +68,26 @@ fn run(zeros: usize, trace: &[u8], ring: &mut [u8], fram: &mut [u8], text: &mut 
 }
 
 // Runs a trace under the key of so many zero bytes in these buffers, and prints what is to be printed.
-fn print(zeros: usize, trace: &[u8], ring: &mut [u8], fram: &mut [u8], text: &mut [u8])
+fn print(rt: &impl Print, zeros: usize, trace: &[u8], ring: &mut [u8], fram: &mut [u8], text: &mut [u8])
     requires { (zeros ≤ long_key) × (length ring.old ≡ ring_length) × (length fram.old ≡ fram_length) × (text_length ≤ length text.old) }
 {
     let n = run(zeros, trace, ring, fram, text);
-    io::write_all(STDOUT_FILENO, &text[..n]);
+    let _ = rt.write_all(&text[..n]);
 }
 
-fn main() {
-    let zeros = key_length();
+fn main(rt: HostRuntime) {
+    let zeros = key_length(&rt);
     if zeros == 0 {
-        complain(
+        rt.complain(
             b"usage: bench_trace [LENGTH], the key's length in bytes, 16 or 32; 32 if none is given\n",
         );
         return;
     }
     // One byte more than the longest trace has shows one that is too long.
     let mut input = [0u8; 16_385];
-    let n = io::read_full(STDIN_FILENO, &mut input);
+    let n = read_full(&mut rt.reader(), &mut input);
     let mut ring = [0u8; RING_LENGTH];
     let mut fram = [0u8; FRAM_LENGTH];
     let mut text = [0u8; TEXT_LENGTH];
-    print(zeros, &input[..n], &mut ring, &mut fram, &mut text);
+    print(&rt, zeros, &input[..n], &mut ring, &mut fram, &mut text);
 }

@@ -6,9 +6,8 @@
 ghost use Rattle.std.specs.Prelude.{◌≡◌, ◌+◌, ◌*◌, ◌≤◌, length};
 ghost use Rattle.octets.specs.Limits.{entry_length, entries_limit};
 
-use bench_io::{answer_refused, not_written, read_open};
+use bench_io::{Console, answer_refused, not_written, read_open};
 use chain::chain_order;
-use libc::{STDIN_FILENO, STDOUT_FILENO};
 use octets::limits::{ENTRIES_LIMIT, ENTRY_LENGTH};
 use octets::part;
 use stops::Check;
@@ -17,38 +16,38 @@ use stops::Check;
 const ROOM: usize = ENTRY_LENGTH * ENTRIES_LIMIT + 1;
 
 // Writes a number and a line feed; whether all was taken.
-fn write_line(number: u8) -> bool {
-    io::print_decimal(STDOUT_FILENO, number as u64) & io::write_all(STDOUT_FILENO, b"\n")
+fn write_line(rt: &impl Print, number: u8) -> bool {
+    rt.println(number).is_ok()
 }
 
 // Writes numbers, one a line, or complains once.
-fn write_lines(numbers: &[u8]) {
+fn write_lines(rt: &impl Console, numbers: &[u8]) {
     for i in 0..numbers.len() {
-        if !write_line(numbers[i]) {
-            not_written();
+        if !write_line(rt, numbers[i]) {
+            not_written(rt);
             return;
         }
     }
 }
 
 // The whole run, in buffers for the entries and their positions.
-fn run(entries: &mut [u8], positions: &mut [u8])
+fn run(rt: &impl Console, entries: &mut [u8], positions: &mut [u8])
     requires { (length entries.old ≤ entry_length * entries_limit + 1) × (length positions.old ≡ entries_limit) }
 {
-    let loaded = read_open(STDIN_FILENO, b"entries: ", b"standard input", entries);
+    let loaded = read_open(rt, &mut rt.reader(), b"entries: ", b"standard input", entries);
     if !loaded.is_read {
         return;
     }
     let length = loaded.length;
     let check = chain_order(&entries[..length], positions);
     match check {
-        Check::Pass => write_lines(part(positions, 0, length / ENTRY_LENGTH)),
-        Check::Stopped(stop) => answer_refused(stop),
+        Check::Pass => write_lines(rt, part(positions, 0, length / ENTRY_LENGTH)),
+        Check::Stopped(stop) => answer_refused(rt, stop),
     }
 }
 
-fn main() {
+fn main(rt: HostRuntime) {
     let mut entries = [0u8; ROOM];
     let mut positions = [0u8; ENTRIES_LIMIT];
-    run(&mut entries, &mut positions);
+    run(&rt, &mut entries, &mut positions);
 }

@@ -11,10 +11,10 @@ ghost use Rattle.checkpoint.specs.Half.{form_of, open_length, secret_length, goo
 
 use aes::table::round_table;
 use aes::{expand_key, rounds};
+use bench_io::read_full;
 use checkpoint::half::{Head, open_part, open_secret, read_head};
 use checkpoint::layout::{EMPTY_LENGTH, HEAD_LENGTH, PACKET_LENGTH};
 use checkpoint::under::{good_tag_under, seal_under};
-use libc::{STDIN_FILENO, STDOUT_FILENO};
 use octets::limits::{LONG_KEY, PART_LIMIT, SHORT_KEY};
 use octets::{copy_at, part, same};
 
@@ -109,43 +109,43 @@ fn stage(c: Case, staging: &mut [u8])
     );
 }
 
-fn print_byte(b: u8) {
-    io::print_hex(STDOUT_FILENO, b as u64, 2);
+fn print_byte(rt: &impl Print, b: u8) {
+    let _ = print!(rt; "{b:02x}");
 }
 
 // Prints bytes in hexadecimal.
-fn print_bytes(s: &[u8]) {
+fn print_bytes(rt: &impl Print, s: &[u8]) {
     for i in 0..s.len() {
-        print_byte(s[i]);
+        print_byte(rt, s[i]);
     }
 }
 
 // Prints a checkpoint; two dots stand for what is left out of it.
-fn print_checkpoint(s: &[u8]) {
+fn print_checkpoint(rt: &impl Print, s: &[u8]) {
     if s.len() <= WHOLE {
-        print_bytes(s);
+        print_bytes(rt, s);
     } else {
-        print_bytes(part(s, 0, HEAD_LENGTH));
-        io::write_all(STDOUT_FILENO, b" .. ");
-        print_bytes(part(s, s.len() - LAST, LAST));
+        print_bytes(rt, part(s, 0, HEAD_LENGTH));
+        let _ = rt.write_all(b" .. ");
+        print_bytes(rt, part(s, s.len() - LAST, LAST));
     }
 }
 
-fn print_number(name: &[u8], n: usize) {
-    io::write_all(STDOUT_FILENO, name);
-    io::print_decimal(STDOUT_FILENO, n as u64);
+fn print_number(rt: &impl Print, name: &[u8], n: usize) {
+    let _ = rt.write_all(name);
+    let _ = rt.print(n);
 }
 
-fn print_case(c: Case) {
+fn print_case(rt: &impl Print, c: Case) {
     if c.half == 0 {
-        io::write_all(STDOUT_FILENO, b"half A");
+        let _ = rt.write_all(b"half A");
     } else {
-        io::write_all(STDOUT_FILENO, b"half B");
+        let _ = rt.write_all(b"half B");
     }
-    print_number(b" packet ", c.packet);
-    print_number(b" open ", c.open);
-    print_number(b" secret ", c.secret);
-    print_number(b" restarts ", c.restarts);
+    print_number(rt, b" packet ", c.packet);
+    print_number(rt, b" open ", c.open);
+    print_number(rt, b" secret ", c.secret);
+    print_number(rt, b" restarts ", c.restarts);
 }
 
 // Puts the checkpoint into its half of the image.
@@ -161,17 +161,17 @@ fn place(c: Case, image: &mut [u8])
 }
 
 // Prints what the checkpoint's half then begins with.
-fn show(c: Case)
+fn show(rt: &impl Print, c: Case)
     requires { (c.half ≤ 1) × (c.packet ≤ packet_limit) × (c.«open» ≤ part_limit) × (c.secret ≤ part_limit) × (c.restarts ≤ 8) }
 {
     let mut image = [0xFFu8; 2 * HALF];
     place(c, &mut image);
-    print_case(c);
-    io::write_all(STDOUT_FILENO, b"\n");
+    print_case(rt, c);
+    let _ = rt.write_all(b"\n");
     let i = c.half * HALF;
     let n = EMPTY_LENGTH + c.open + c.secret;
-    print_checkpoint(part(&image, i, n));
-    io::write_all(STDOUT_FILENO, b"\n");
+    print_checkpoint(rt, part(&image, i, n));
+    let _ = rt.write_all(b"\n");
 }
 
 // Whether the open part is the one sealed.
@@ -275,29 +275,29 @@ fn other_key(c: Case) -> Case {
 }
 
 // Prints how the checkpoint reads from its half, under its key and under that of the other length.
-fn show_reading(c: Case)
+fn show_reading(rt: &impl Print, c: Case)
     requires { (c.half ≤ 1) × (c.packet ≤ packet_limit) × (c.«open» ≤ part_limit) × (c.secret ≤ part_limit) × (c.restarts ≤ 8) }
 {
     let mut image = [0xFFu8; 2 * HALF];
     place(c, &mut image);
-    print_case(c);
+    print_case(rt, c);
     let i = c.half * HALF;
     let half = part(&image, i, HALF);
-    print_number(b": ", reads(half, c));
-    print_number(b", under the other key ", reads(half, other_key(c)));
-    io::write_all(STDOUT_FILENO, b"\n");
+    print_number(rt, b": ", reads(half, c));
+    print_number(rt, b", under the other key ", reads(half, other_key(c)));
+    let _ = rt.write_all(b"\n");
 }
 
 // Prints how the first n bytes of a half with the checkpoint read, with one byte changed, which then comes back.
-fn show_change(name: &[u8], c: Case, half: &mut [u8], n: usize, at: usize, byte: u8)
+fn show_change(rt: &impl Print, name: &[u8], c: Case, half: &mut [u8], n: usize, at: usize, byte: u8)
     requires { (n ≤ 65584) × (at < 65584) × (length half.old ≡ 65584) }
     ensures { length half.new ≡ 65584 }
 {
     let before = half[at];
     half[at] = byte;
-    io::write_all(STDOUT_FILENO, name);
-    print_number(b": ", reads(part(half, 0, n), c));
-    io::write_all(STDOUT_FILENO, b"\n");
+    let _ = rt.write_all(name);
+    print_number(rt, b": ", reads(part(half, 0, n), c));
+    let _ = rt.write_all(b"\n");
     half[at] = before;
 }
 
@@ -342,72 +342,73 @@ fn numbered(short: bool, k: usize) -> Case
     }
 }
 
-fn show_some(short: bool, from: usize, to: usize) {
+fn show_some(rt: &impl Print, short: bool, from: usize, to: usize) {
     for k in from..to {
-        show(numbered(short, k));
+        show(rt, numbered(short, k));
     }
 }
 
-fn show_readings(short: bool, from: usize, to: usize) {
+fn show_readings(rt: &impl Print, short: bool, from: usize, to: usize) {
     for k in from..to {
-        show_reading(numbered(short, k));
+        show_reading(rt, numbered(short, k));
     }
 }
 
-fn print_key(short: bool) {
-    print_number(b"a key of ", key_length(short));
-    io::write_all(STDOUT_FILENO, b" bytes\n");
+fn print_key(rt: &impl Print, short: bool) {
+    print_number(rt, b"a key of ", key_length(short));
+    let _ = rt.write_all(b" bytes\n");
 }
 
 // Under the shorter key all but those whose parts have 4,096 bytes.
-fn show_all() {
-    print_key(false);
-    show_some(false, 0, 10);
-    print_key(true);
-    show_some(true, 0, 6);
-    show_some(true, 8, 10);
+fn show_all(rt: &impl Print) {
+    print_key(rt, false);
+    show_some(rt, false, 0, 10);
+    print_key(rt, true);
+    show_some(rt, true, 0, 6);
+    show_some(rt, true, 8, 10);
 }
 
-fn show_all_readings() {
-    print_key(false);
-    show_readings(false, 0, 10);
-    print_key(true);
-    show_readings(true, 0, 6);
-    show_readings(true, 8, 10);
+fn show_all_readings(rt: &impl Print) {
+    print_key(rt, false);
+    show_readings(rt, false, 0, 10);
+    print_key(rt, true);
+    show_readings(rt, true, 0, 6);
+    show_readings(rt, true, 8, 10);
 }
 
 // Words of another kind. Those from the open part's length on stand at offset i.
-fn show_kinds(c: Case, half: &mut [u8], i: usize)
+fn show_kinds(rt: &impl Print, c: Case, half: &mut [u8], i: usize)
     requires { (i ≤ 4) × (length half.old ≡ 65584) }
     ensures { length half.new ≡ 65584 }
 {
-    show_change(b"open length of kind 0", c, half, HALF, i, 0x00);
-    show_change(b"open length of kind 2", c, half, HALF, i, 0x80);
-    show_change(b"secret length of kind 1", c, half, HALF, i + 4, 0x40);
-    show_change(b"secret length of kind 3", c, half, HALF, i + 4, 0xC0);
-    show_change(b"restarts of kind 0", c, half, HALF, i + 8, 0x00);
+    show_change(rt, b"open length of kind 0", c, half, HALF, i, 0x00);
+    show_change(rt, b"open length of kind 2", c, half, HALF, i, 0x80);
+    show_change(rt, b"secret length of kind 1", c, half, HALF, i + 4, 0x40);
+    show_change(rt, b"secret length of kind 3", c, half, HALF, i + 4, 0xC0);
+    show_change(rt, b"restarts of kind 0", c, half, HALF, i + 8, 0x00);
 }
 
 // Words with another value.
-fn show_values(c: Case, half: &mut [u8], i: usize)
+fn show_values(rt: &impl Print, c: Case, half: &mut [u8], i: usize)
     requires { (i ≤ 4) × (length half.old ≡ 65584) }
     ensures { length half.new ≡ 65584 }
 {
-    show_change(b"open part of 8194 words", c, half, HALF, i + 2, 0x20);
-    show_change(b"open part of 1 word", c, half, HALF, i + 3, 1);
-    show_change(b"secret part of 8193 words", c, half, HALF, i + 6, 0x20);
-    show_change(b"9 restarts", c, half, HALF, i + 11, 9);
-    show_change(b"8 restarts", c, half, HALF, i + 11, 8);
+    show_change(rt, b"open part of 8194 words", c, half, HALF, i + 2, 0x20);
+    show_change(rt, b"open part of 1 word", c, half, HALF, i + 3, 1);
+    show_change(rt, b"secret part of 8193 words", c, half, HALF, i + 6, 0x20);
+    show_change(rt, b"9 restarts", c, half, HALF, i + 11, 9);
+    show_change(rt, b"8 restarts", c, half, HALF, i + 11, 8);
 }
 
 // Another byte behind the words, where the parts have 8 and 4.
-fn show_bytes(c: Case, half: &mut [u8], i: usize)
+fn show_bytes(rt: &impl Print, c: Case, half: &mut [u8], i: usize)
     requires { (i ≤ 4) × (length half.old ≡ 65584) }
     ensures { length half.new ≡ 65584 }
 {
-    show_change(b"a byte of the previous tag", c, half, HALF, i + 12, 0);
-    show_change(b"a byte of the open part", c, half, HALF, i + 28, 0);
+    show_change(rt, b"a byte of the previous tag", c, half, HALF, i + 12, 0);
+    show_change(rt, b"a byte of the open part", c, half, HALF, i + 28, 0);
     show_change(
+        rt,
         b"a byte of the sealed secret part",
         c,
         half,
@@ -415,16 +416,17 @@ fn show_bytes(c: Case, half: &mut [u8], i: usize)
         i + 36,
         0,
     );
-    show_change(b"a byte of the tag", c, half, HALF, i + 55, 0);
+    show_change(rt, b"a byte of the tag", c, half, HALF, i + 55, 0);
 }
 
 // Shorter halves.
-fn show_ends(c: Case, half: &mut [u8], i: usize)
+fn show_ends(rt: &impl Print, c: Case, half: &mut [u8], i: usize)
     requires { (i ≤ 4) × (length half.old ≡ 65584) }
     ensures { length half.new ≡ 65584 }
 {
-    show_change(b"a half that ends with it", c, half, i + 56, i, 0x40);
+    show_change(rt, b"a half that ends with it", c, half, i + 56, i, 0x40);
     show_change(
+        rt,
         b"a half that ends 4 bytes earlier",
         c,
         half,
@@ -434,46 +436,46 @@ fn show_ends(c: Case, half: &mut [u8], i: usize)
     );
 }
 
-fn show_changes(c: Case, half: &mut [u8], i: usize)
+fn show_changes(rt: &impl Print, c: Case, half: &mut [u8], i: usize)
     requires { (i ≤ 4) × (length half.old ≡ 65584) }
     ensures { length half.new ≡ 65584 }
 {
-    show_kinds(c, half, i);
-    show_values(c, half, i);
-    show_bytes(c, half, i);
-    show_ends(c, half, i);
+    show_kinds(rt, c, half, i);
+    show_values(rt, c, half, i);
+    show_bytes(rt, c, half, i);
+    show_ends(rt, c, half, i);
 }
 
 // A half with a checkpoint of the longer form, changed.
-fn show_longer(short: bool) {
+fn show_longer(rt: &impl Print, short: bool) {
     let c = a_case(short, 0, 5, 8, 4, 3, 48);
     let mut half = [0u8; HALF];
     stage(c, &mut half);
-    io::write_all(STDOUT_FILENO, b"the longer head, ");
-    print_key(short);
-    show_change(b"as it was", c, &mut half, HALF, 0, 0x00);
-    show_change(b"packet number of kind 1", c, &mut half, HALF, 0, 0x40);
-    show_change(b"packet number of kind 2", c, &mut half, HALF, 0, 0x80);
-    show_change(b"packet number of kind 3", c, &mut half, HALF, 0, 0xC0);
-    show_change(b"packet number 6", c, &mut half, HALF, 3, 6);
-    show_changes(c, &mut half, 4);
+    let _ = rt.write_all(b"the longer head, ");
+    print_key(rt, short);
+    show_change(rt, b"as it was", c, &mut half, HALF, 0, 0x00);
+    show_change(rt, b"packet number of kind 1", c, &mut half, HALF, 0, 0x40);
+    show_change(rt, b"packet number of kind 2", c, &mut half, HALF, 0, 0x80);
+    show_change(rt, b"packet number of kind 3", c, &mut half, HALF, 0, 0xC0);
+    show_change(rt, b"packet number 6", c, &mut half, HALF, 3, 6);
+    show_changes(rt, c, &mut half, 4);
 }
 
 // The same of the older form, whose firmware took keys of 32 bytes alone; the checkpoint comes from standard input.
-fn show_older() {
+fn show_older(rt: &(impl Input + Print)) {
     let c = a_case(false, 0, 0, 8, 4, 3, 48);
     let mut half = [0u8; HALF];
-    io::read_full(STDIN_FILENO, &mut half);
-    io::write_all(STDOUT_FILENO, b"the older head, ");
-    print_key(false);
-    show_change(b"as it was", c, &mut half, HALF, 0, 0x40);
-    show_changes(c, &mut half, 0);
+    read_full(&mut rt.reader(), &mut half);
+    let _ = rt.write_all(b"the older head, ");
+    print_key(rt, false);
+    show_change(rt, b"as it was", c, &mut half, HALF, 0, 0x40);
+    show_changes(rt, c, &mut half, 0);
 }
 
-fn main() {
-    show_all();
-    show_all_readings();
-    show_longer(false);
-    show_longer(true);
-    show_older();
+fn main(rt: HostRuntime) {
+    show_all(&rt);
+    show_all_readings(&rt);
+    show_longer(&rt, false);
+    show_longer(&rt, true);
+    show_older(&rt);
 }

@@ -3,11 +3,16 @@
 // nothing is checked, and standard error says which and why. The exit status does not tell.
 #![tactic(auto)]
 
-ghost use Rattle.io.specs.Counts.{IsPrefixLen};
+ghost use Rattle.std.specs.Prelude.{◌≡◌, ◌≤◌, length, take};
 
-use bench_io::{Loaded, answer_refused, complain, not_read, number_argument, read_open, write_out};
+use bench_io::{
+    Console, Loaded, answer_refused, argument_count, not_read, number_argument, open_read, read_open,
+    write_out,
+};
 use factory::factory_check;
 use octets::limits::{FRAM_LIMIT, LONG_KEY, PAGES_LIMIT, SLOT_LENGTH, SLOTS_LIMIT};
+use std::fs::Files;
+use std::io;
 use stops::Check;
 
 // One byte more than each may have, so that a longer file is seen to be longer.
@@ -17,58 +22,59 @@ const FRAM_ROOM: usize = FRAM_LIMIT + 1;
 
 const KEY_ROOM: usize = LONG_KEY + 1;
 
+// Linux's number of a file name that is too long, and the longest that is read.
+const NAME_TOO_LONG: i32 = 36;
+
+const NAME_LIMIT: usize = 4096;
+
 // Reads the file that argument i names.
-fn load(i: usize, what: &[u8], buffer: &mut [u8]) -> Loaded
-    ensures { IsPrefixLen result.length buffer.new }
+fn load<R: Console + Files>(rt: &R, i: usize, what: &[u8], buffer: &mut [u8]) -> Loaded
+    ensures { (result.length ≤ length buffer.new) × (result.length ≡ length (take result.length buffer.new)) }
 {
-    let mut path = io::buffer();
-    let n = os::arg(i, &mut path);
-    if os::errno() != 0 {
-        return not_read(what, b"name");
+    let mut path = [0u8; NAME_LIMIT];
+    let Ok(n) = rt.arg(i, &mut path) else {
+        return not_read(rt, what, b"name", io::Error::from_raw_os_error(NAME_TOO_LONG));
+    };
+    match open_read(rt, &path[..n]) {
+        Ok(mut file) => read_open(rt, &mut file, what, &path[..n], buffer),
+        Err(error) => not_read(rt, what, &path[..n], error),
     }
-    let file = os::open_read(&path[..n]);
-    if file < 0 {
-        return not_read(what, &path[..n]);
-    }
-    let loaded = read_open(file, what, &path[..n], buffer);
-    libc::close(file);
-    loaded
 }
 
 // Writes what the check says.
-fn say(check: Check) {
+fn say(rt: &impl Console, check: Check) {
     match check {
-        Check::Pass => write_out(b"accepted\n"),
-        Check::Stopped(stop) => answer_refused(stop),
+        Check::Pass => write_out(rt, b"accepted\n"),
+        Check::Stopped(stop) => answer_refused(rt, stop),
     }
 }
 
 // The whole run, in a buffer for each file.
-fn run(ring: &mut [u8], fram: &mut [u8], key: &mut [u8]) {
-    let pages = number_argument(1, PAGES_LIMIT);
-    let slots = number_argument(2, SLOTS_LIMIT);
-    if !pages.is_number | !slots.is_number | (os::arg_count() != 6) {
-        complain(
+fn run<R: Console + Files>(rt: &R, ring: &mut [u8], fram: &mut [u8], key: &mut [u8]) {
+    let pages = number_argument(rt, 1, PAGES_LIMIT);
+    let slots = number_argument(rt, 2, SLOTS_LIMIT);
+    if !pages.is_number | !slots.is_number | (argument_count(rt) != 6) {
+        rt.complain(
             b"usage: factory_view PAGES SLOTS RING FRAM KEY, the last three being names of files\n",
         );
         return;
     }
-    let r = load(3, b"ring: ", ring);
+    let r = load(rt, 3, b"ring: ", ring);
     if !r.is_read {
         return;
     }
-    let f = load(4, b"FRAM: ", fram);
+    let f = load(rt, 4, b"FRAM: ", fram);
     if !f.is_read {
         return;
     }
-    let k = load(5, b"key: ", key);
+    let k = load(rt, 5, b"key: ", key);
     if !k.is_read {
         return;
     }
     let r_length = r.length;
     let f_length = f.length;
     let k_length = k.length;
-    say(factory_check(
+    say(rt, factory_check(
         pages.value,
         slots.value,
         &ring[..r_length],
@@ -77,9 +83,9 @@ fn run(ring: &mut [u8], fram: &mut [u8], key: &mut [u8]) {
     ));
 }
 
-fn main() {
+fn main(rt: HostRuntime) {
     let mut ring = [0u8; RING_ROOM];
     let mut fram = [0u8; FRAM_ROOM];
     let mut key = [0u8; KEY_ROOM];
-    run(&mut ring, &mut fram, &mut key);
+    run(&rt, &mut ring, &mut fram, &mut key);
 }

@@ -4,9 +4,10 @@
 
 ghost use Rattle.std.specs.Prelude.{◌<◌, ◌≤◌, length};
 
+use bench_io::{Console, read_file};
 use hex_digits::decode;
-use libc::STDOUT_FILENO;
 use octets::{copy, same, word_at};
+use std::fs::Files;
 use stops::{Check, stop_number};
 use vectors::until;
 
@@ -314,45 +315,45 @@ fn count_lines(kind: Kind, s: &[u8]) -> Tally {
 }
 
 // Prints the tally of a file, which is at most 65,536 bytes long.
-fn run(kind: Kind, path: &[u8], name: &[u8]) {
-    let file = os::open_read(path);
-    if file < 0 {
-        os::fail(path);
+fn run<R: Console + Files>(rt: &R, kind: Kind, path: &[u8], name: &[u8]) {
+    let mut text = [0u8; 65_536];
+    let loaded = read_file(rt, path, &mut text);
+    if !loaded.is_read {
         return;
     }
-    let mut text = io::large_buffer();
-    let n = io::read_full(file, &mut text);
-    libc::close(file);
-    let t = count_lines(kind, &text[..n]);
-    io::print_decimal(STDOUT_FILENO, t.agree as u64);
-    io::write_all(STDOUT_FILENO, b" of ");
-    io::print_decimal(STDOUT_FILENO, t.all as u64);
-    io::write_all(STDOUT_FILENO, name);
-    io::write_all(STDOUT_FILENO, b" agree\n");
+    let t = count_lines(kind, &text[..loaded.length]);
+    let _ = print!(rt; "{} of {}", t.agree, t.all);
+    let _ = rt.write_all(name);
+    let _ = rt.write_all(b" agree\n");
 }
 
-fn main() {
+fn main(rt: HostRuntime) {
     run(
+        &rt,
         Kind::Seals,
         b"gcm128-seal.txt",
         b" vectors of NIST for sealing by AES-128-GCM",
     );
     run(
+        &rt,
         Kind::Opens,
         b"gcm128-open.txt",
         b" vectors of NIST for opening by AES-128-GCM",
     );
     run(
+        &rt,
         Kind::Seals,
         b"gcm256-seal.txt",
         b" vectors of NIST for sealing by AES-256-GCM",
     );
     run(
+        &rt,
         Kind::Opens,
         b"gcm256-open.txt",
         b" vectors of NIST for opening by AES-256-GCM",
     );
     run(
+        &rt,
         Kind::Limits,
         b"limits.txt",
         b" cases at the limits of lengths",

@@ -6,9 +6,8 @@
 ghost use Rattle.std.specs.Prelude.{◌≡◌, ◌+◌, length};
 ghost use Rattle.octets.specs.Limits.{image_limit};
 
-use bench_io::{complain, number_argument, refuse, write_out};
+use bench_io::{Console, argument_count, number_argument, read_full, refuse, write_out};
 use intel_hex::import_image;
-use libc::STDIN_FILENO;
 use octets::limits::IMAGE_LIMIT;
 use stops::Check;
 
@@ -16,35 +15,35 @@ use stops::Check;
 const TEXT_LIMIT: usize = 4_194_304;
 
 // Writes the image that a text makes of an erased one.
-fn import(text: &[u8], image: &mut [u8]) {
+fn import(rt: &impl Console, text: &[u8], image: &mut [u8]) {
     let check = import_image(text, image);
     match check {
-        Check::Stopped(stop) => refuse(stop),
-        Check::Pass => write_out(image),
+        Check::Stopped(stop) => refuse(rt, stop),
+        Check::Pass => write_out(rt, image),
     }
 }
 
 // The whole run, in a buffer for the text and an erased image.
-fn run(text: &mut [u8], image: &mut [u8])
+fn run(rt: &impl Console, text: &mut [u8], image: &mut [u8])
     requires { length image.old ≡ image_limit + 1 }
 {
-    let size = number_argument(1, IMAGE_LIMIT);
-    if !size.is_number | (os::arg_count() != 2) {
-        complain(b"usage: hex_import SIZE, the image's length in bytes\n");
+    let size = number_argument(rt, 1, IMAGE_LIMIT);
+    if !size.is_number | (argument_count(rt) != 2) {
+        rt.complain(b"usage: hex_import SIZE, the image's length in bytes\n");
         return;
     }
-    let n = io::read_full(STDIN_FILENO, text);
+    let n = read_full(&mut rt.reader(), text);
     if n > TEXT_LIMIT {
-        complain(b"the text is longer than 4,194,304 bytes\n");
+        rt.complain(b"the text is longer than 4,194,304 bytes\n");
         return;
     }
     let bytes = size.value;
-    import(&text[..n], &mut image[..bytes]);
+    import(rt, &text[..n], &mut image[..bytes]);
 }
 
-fn main() {
+fn main(rt: HostRuntime) {
     // One byte more than is taken shows a text or a size that is too large.
     let mut text = [0u8; TEXT_LIMIT + 1];
     let mut image = [0xFFu8; IMAGE_LIMIT + 1];
-    run(&mut text, &mut image);
+    run(&rt, &mut text, &mut image);
 }

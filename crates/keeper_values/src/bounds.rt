@@ -10,6 +10,7 @@ use octets::part;
 
 // Begins a save and prints what it says; staging is long enough for every FRAM that is tried.
 fn begin(
+    rt: &impl Print,
     name: &[u8],
     pages: usize,
     ring: &[u8],
@@ -33,19 +34,20 @@ fn begin(
         &mut staging,
     );
     let start = started.start;
-    print(name);
-    print_start(b": ", start);
-    print(b"\n");
+    print(rt, name);
+    print_start(rt, b": ", start);
+    print(rt, b"\n");
 }
 
 // A first save on a blank ring of pages of 2 slots.
-fn try_first_save(name: &[u8], pages: usize, fram: usize, packet: usize, open: usize, secret: usize)
+fn try_first_save(rt: &impl Print, name: &[u8], pages: usize, fram: usize, packet: usize, open: usize, secret: usize)
     requires { (pages ≤ 33) × (fram ≤ 262152) × («open» ≤ 32772) × (secret ≤ 32772) }
 {
     let ring = [0xFFu8; 1056];
     let image = [0u8; 262_152];
     let bytes = [0u8; 32_772];
     begin(
+        rt,
         name,
         pages,
         part(&ring, 0, 32 * pages),
@@ -58,13 +60,14 @@ fn try_first_save(name: &[u8], pages: usize, fram: usize, packet: usize, open: u
 }
 
 // A save with a starting tag of a number of bytes.
-fn try_tag(name: &[u8], length: usize)
+fn try_tag(rt: &impl Print, name: &[u8], length: usize)
     requires { length ≤ 17 }
 {
     let ring = [0xFFu8; 96];
     let fram = [0u8; 128];
     let tag = [0u8; 17];
     begin(
+        rt,
         name,
         3,
         &ring,
@@ -77,7 +80,7 @@ fn try_tag(name: &[u8], length: usize)
 }
 
 // Begins a power-up with a ring of 4 pages of 2 slots and prints what it says.
-fn try_power_up(name: &[u8], ring: &[u8], state: &mut [u8]) {
+fn try_power_up(rt: &impl Print, name: &[u8], ring: &[u8], state: &mut [u8]) {
     let fram = [0u8; 128];
     let mut staging = [0u8; 64];
     let p = power_up(
@@ -91,66 +94,67 @@ fn try_power_up(name: &[u8], ring: &[u8], state: &mut [u8]) {
         state,
     );
     let start = p.start;
-    print(name);
-    print_start(b": ", start);
-    print(b"\n");
+    print(rt, name);
+    print_start(rt, b": ", start);
+    print(rt, b"\n");
 }
 
 // With a blank ring, which gives 6 where the state buffer is long enough.
-pub fn show_state_bounds() {
+pub fn show_state_bounds(rt: &impl Print) {
     let ring = [0xFFu8; 128];
     let mut short = [0u8; 32_767];
-    try_power_up(b"state buffer of 32767 bytes, power-up", &ring, &mut short);
+    try_power_up(rt, b"state buffer of 32767 bytes, power-up", &ring, &mut short);
     let mut state = [0u8; 32_768];
-    try_power_up(b"state buffer of 32768 bytes, power-up", &ring, &mut state);
+    try_power_up(rt, b"state buffer of 32768 bytes, power-up", &ring, &mut state);
 }
 
 // With pages 0 and 2 not blank.
-pub fn show_parted_ring() {
+pub fn show_parted_ring(rt: &impl Print) {
     let mut ring = [0xFFu8; 128];
     ring[0] = 0;
     ring[64] = 0;
     let mut state = [0u8; PART_LIMIT];
-    try_power_up(b"pages 0 and 2 of 4 not blank, power-up", &ring, &mut state);
+    try_power_up(rt, b"pages 0 and 2 of 4 not blank, power-up", &ring, &mut state);
 }
 
-pub fn show_fram_bounds() {
-    try_first_save(b"FRAM of 80 bytes", 3, 80, 0, 0, 0);
-    try_first_save(b"FRAM of 84 bytes", 3, 84, 0, 0, 0);
-    try_first_save(b"FRAM of 88 bytes, empty parts", 3, 88, 0, 0, 0);
-    try_first_save(b"FRAM of 96 bytes, empty parts", 3, 96, 0, 0, 0);
-    try_first_save(b"FRAM of 96 bytes, a word of open part", 3, 96, 0, 4, 0);
-    try_first_save(b"FRAM of 96 bytes, a word of secret part", 3, 96, 0, 0, 4);
-    try_first_save(b"FRAM of 262144 bytes", 3, 262_144, 0, 0, 0);
-    try_first_save(b"FRAM of 262152 bytes", 3, 262_152, 0, 0, 0);
+pub fn show_fram_bounds(rt: &impl Print) {
+    try_first_save(rt, b"FRAM of 80 bytes", 3, 80, 0, 0, 0);
+    try_first_save(rt, b"FRAM of 84 bytes", 3, 84, 0, 0, 0);
+    try_first_save(rt, b"FRAM of 88 bytes, empty parts", 3, 88, 0, 0, 0);
+    try_first_save(rt, b"FRAM of 96 bytes, empty parts", 3, 96, 0, 0, 0);
+    try_first_save(rt, b"FRAM of 96 bytes, a word of open part", 3, 96, 0, 4, 0);
+    try_first_save(rt, b"FRAM of 96 bytes, a word of secret part", 3, 96, 0, 0, 4);
+    try_first_save(rt, b"FRAM of 262144 bytes", 3, 262_144, 0, 0, 0);
+    try_first_save(rt, b"FRAM of 262152 bytes", 3, 262_152, 0, 0, 0);
 }
 
-pub fn show_page_bounds() {
-    try_first_save(b"2 pages", 2, 128, 0, 0, 0);
-    try_first_save(b"3 pages", 3, 128, 0, 0, 0);
-    try_first_save(b"32 pages", 32, 128, 0, 0, 0);
-    try_first_save(b"33 pages", 33, 128, 0, 0, 0);
+pub fn show_page_bounds(rt: &impl Print) {
+    try_first_save(rt, b"2 pages", 2, 128, 0, 0, 0);
+    try_first_save(rt, b"3 pages", 3, 128, 0, 0, 0);
+    try_first_save(rt, b"32 pages", 32, 128, 0, 0, 0);
+    try_first_save(rt, b"33 pages", 33, 128, 0, 0, 0);
 }
 
-pub fn show_tag_bounds() {
-    try_tag(b"starting tag of 15 bytes", 15);
-    try_tag(b"starting tag of 16 bytes", 16);
-    try_tag(b"starting tag of 17 bytes", 17);
+pub fn show_tag_bounds(rt: &impl Print) {
+    try_tag(rt, b"starting tag of 15 bytes", 15);
+    try_tag(rt, b"starting tag of 16 bytes", 16);
+    try_tag(rt, b"starting tag of 17 bytes", 17);
 }
 
-pub fn show_part_bounds() {
-    try_first_save(b"open part of 32768 bytes", 3, 262_144, 0, 32_768, 0);
-    try_first_save(b"open part of 32769 bytes", 3, 262_144, 0, 32_769, 0);
-    try_first_save(b"open part of 32772 bytes", 3, 262_144, 0, 32_772, 0);
-    try_first_save(b"secret part of 32768 bytes", 3, 262_144, 0, 0, 32_768);
-    try_first_save(b"secret part of 32769 bytes", 3, 262_144, 0, 0, 32_769);
-    try_first_save(b"secret part of 32772 bytes", 3, 262_144, 0, 0, 32_772);
+pub fn show_part_bounds(rt: &impl Print) {
+    try_first_save(rt, b"open part of 32768 bytes", 3, 262_144, 0, 32_768, 0);
+    try_first_save(rt, b"open part of 32769 bytes", 3, 262_144, 0, 32_769, 0);
+    try_first_save(rt, b"open part of 32772 bytes", 3, 262_144, 0, 32_772, 0);
+    try_first_save(rt, b"secret part of 32768 bytes", 3, 262_144, 0, 0, 32_768);
+    try_first_save(rt, b"secret part of 32769 bytes", 3, 262_144, 0, 0, 32_769);
+    try_first_save(rt, b"secret part of 32772 bytes", 3, 262_144, 0, 0, 32_772);
 }
 
-pub fn show_packet_bounds() {
-    try_first_save(b"packet number 1073741823", 3, 128, 1_073_741_823, 0, 0);
-    try_first_save(b"packet number 1073741824", 3, 128, 1_073_741_824, 0, 0);
+pub fn show_packet_bounds(rt: &impl Print) {
+    try_first_save(rt, b"packet number 1073741823", 3, 128, 1_073_741_823, 0, 0);
+    try_first_save(rt, b"packet number 1073741824", 3, 128, 1_073_741_824, 0, 0);
     try_first_save(
+        rt,
         b"packet number 1073741824, FRAM of 88 bytes",
         3,
         88,

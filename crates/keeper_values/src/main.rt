@@ -14,37 +14,37 @@ use keeper::wipe;
 use print::{print, print_bytes, print_number};
 use values::{long_key, short_key};
 
-fn show_bounds() {
-    bounds::show_fram_bounds();
-    bounds::show_page_bounds();
-    bounds::show_tag_bounds();
-    bounds::show_part_bounds();
-    bounds::show_packet_bounds();
-    bounds::show_state_bounds();
-    bounds::show_parted_ring();
+fn show_bounds(rt: &impl Print) {
+    bounds::show_fram_bounds(rt);
+    bounds::show_page_bounds(rt);
+    bounds::show_tag_bounds(rt);
+    bounds::show_part_bounds(rt);
+    bounds::show_packet_bounds(rt);
+    bounds::show_state_bounds(rt);
+    bounds::show_parted_ring(rt);
 }
 
-fn show_unit(key: &[u8]) {
-    print_number(b"a unit with a key of ", key.len());
-    print(b" bytes\n");
-    keys::show_keys(key);
+fn show_unit(rt: &impl Print, key: &[u8]) {
+    print_number(rt, b"a unit with a key of ", key.len());
+    print(rt, b" bytes\n");
+    keys::show_keys(rt, key);
     let mut ring = [0xFFu8; 96];
     let mut fram = [0u8; 128];
-    life::live(key, &mut ring, &mut fram);
+    life::live(rt, key, &mut ring, &mut fram);
 }
 
-fn show_wipe() {
+fn show_wipe(rt: &impl Print) {
     let mut state = [0x0Bu8; 8];
     wipe(&mut state);
-    print(b"wiped: ");
-    print_bytes(&state);
-    print(b"\n");
+    print(rt, b"wiped: ");
+    print_bytes(rt, &state);
+    print(rt, b"\n");
 }
 
-fn main() {
-    show_bounds();
-    show_unit(&long_key());
-    show_unit(&short_key());
-    updated::live_updated();
-    show_wipe();
+fn main(rt: HostRuntime) {
+    show_bounds(&rt);
+    show_unit(&rt, &long_key());
+    show_unit(&rt, &short_key());
+    updated::live_updated(&rt);
+    show_wipe(&rt);
 }

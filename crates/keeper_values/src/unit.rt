@@ -6,33 +6,32 @@ use keeper::{
     Advanced, From, Job, Looked, PoweredUp, Session, Start, Started, from_session, from_tag, look,
     no_session, open_part,
 };
-use libc::STDOUT_FILENO;
 use octets::limits::PART_LIMIT;
 use ring_line::ring_line;
 
-pub fn print_looked(key: &[u8], ring: &[u8], fram: &[u8]) {
+pub fn print_looked(rt: &impl Print, key: &[u8], ring: &[u8], fram: &[u8]) {
     let looked = look(PAGES, SLOTS, ring, fram, key);
     match looked {
         Looked::Restarts(n) => {
-            print_number(b"; restarts ", n);
-            print(b"; open part ");
-            print_bytes(open_part(PAGES, SLOTS, ring, fram, key));
+            print_number(rt, b"; restarts ", n);
+            print(rt, b"; open part ");
+            print_bytes(rt, open_part(PAGES, SLOTS, ring, fram, key));
         }
-        Looked::Unseen(stop) => print_stop(b"; look stopped ", stop),
+        Looked::Unseen(stop) => print_stop(rt, b"; look stopped ", stop),
     }
 }
 
-fn print_ring(ring: &[u8]) {
-    print(b"; ");
+fn print_ring(rt: &impl Print, ring: &[u8]) {
+    print(rt, b"; ");
     let line = ring_line(ring, PAGES, SLOTS);
     let bytes = line.bytes;
     let length = line.length;
-    io::write_all(STDOUT_FILENO, &bytes[..length]);
+    let _ = rt.write_all(&bytes[..length]);
 }
 
-pub fn print_memories(key: &[u8], ring: &[u8], fram: &[u8]) {
-    print_looked(key, ring, fram);
-    print_ring(ring);
+pub fn print_memories(rt: &impl Print, key: &[u8], ring: &[u8], fram: &[u8]) {
+    print_looked(rt, key, ring, fram);
+    print_ring(rt, ring);
 }
 
 // One advance.
@@ -53,6 +52,7 @@ fn run(job: Job, advances: usize, ring: &mut [u8], fram: &mut [u8], staging: &[u
 
 // Runs the job of a start for a number of advances. Answers the session that it handed out, or after a stop the one given.
 fn carry_out(
+    rt: &impl Print,
     started: Started,
     session: Session,
     advances: usize,
@@ -63,14 +63,14 @@ fn carry_out(
     let start = started.start;
     match start {
         Start::Stopped(stop) => {
-            print_stop(b": stopped ", stop);
+            print_stop(rt, b": stopped ", stop);
             session
         }
         Start::Begun => {
             let job = started.job;
             let a = run(job, advances, ring, fram, staging);
             let progress = a.progress;
-            print_progress(progress, advances);
+            print_progress(rt, progress, advances);
             a.session
         }
     }
@@ -102,6 +102,7 @@ pub fn start_save(
 
 // A save with a starting tag, and below one with a session, with a packet number of the value's.
 pub fn do_first_save(
+    rt: &impl Print,
     key: &[u8],
     value: u8,
     nonce: u8,
@@ -109,7 +110,7 @@ pub fn do_first_save(
     ring: &mut [u8],
     fram: &mut [u8],
 ) -> Session {
-    print_number(b"first save of ", value as usize);
+    print_number(rt, b"first save of ", value as usize);
     let mut staging = [0u8; 64];
     let from = from_tag(&starting_tag());
     let started = start_save(
@@ -123,12 +124,13 @@ pub fn do_first_save(
         &mut staging,
     );
     let none = no_session();
-    let next = carry_out(started, none, advances, ring, fram, &staging);
-    print_memories(key, ring, fram);
+    let next = carry_out(rt, started, none, advances, ring, fram, &staging);
+    print_memories(rt, key, ring, fram);
     next
 }
 
 pub fn do_save(
+    rt: &impl Print,
     key: &[u8],
     session: Session,
     value: u8,
@@ -138,6 +140,7 @@ pub fn do_save(
     fram: &mut [u8],
 ) -> Session {
     do_save_hearing(
+        rt,
         key,
         session,
         value as usize,
@@ -151,6 +154,7 @@ pub fn do_save(
 
 // A save that has last heard a packet.
 pub fn do_save_hearing(
+    rt: &impl Print,
     key: &[u8],
     session: Session,
     packet: usize,
@@ -160,13 +164,13 @@ pub fn do_save_hearing(
     ring: &mut [u8],
     fram: &mut [u8],
 ) -> Session {
-    print_number(b"save of ", value as usize);
-    print_number(b", packet ", packet);
+    print_number(rt, b"save of ", value as usize);
+    print_number(rt, b", packet ", packet);
     let mut staging = [0u8; 64];
     let from = from_session(session);
     let started = start_save(key, from, packet, value, nonce, ring, fram, &mut staging);
-    let next = carry_out(started, session, advances, ring, fram, &staging);
-    print_memories(key, ring, fram);
+    let next = carry_out(rt, started, session, advances, ring, fram, &staging);
+    print_memories(rt, key, ring, fram);
     next
 }
 
@@ -183,6 +187,7 @@ pub fn start_power_up(
 
 // Runs the job of a power-up, and prints the secret part that the state begins with.
 fn carry_on(
+    rt: &impl Print,
     powered: PoweredUp,
     session: Session,
     advances: usize,
@@ -194,6 +199,7 @@ fn carry_on(
     let start = powered.start;
     let job = powered.job;
     let next = carry_out(
+        rt,
         Started { start, job },
         session,
         advances,
@@ -202,13 +208,14 @@ fn carry_on(
         staging,
     );
     if powered.length > 0 {
-        print(b"; state ");
-        print_front(state, powered.length);
+        print(rt, b"; state ");
+        print_front(rt, state, powered.length);
     }
     next
 }
 
 pub fn do_power_up(
+    rt: &impl Print,
     key: &[u8],
     session: Session,
     nonce: u8,
@@ -216,11 +223,11 @@ pub fn do_power_up(
     ring: &mut [u8],
     fram: &mut [u8],
 ) -> Session {
-    print(b"power-up");
+    print(rt, b"power-up");
     let mut staging = [0u8; 64];
     let mut state = [0u8; PART_LIMIT];
     let powered = start_power_up(key, nonce, ring, fram, &mut staging, &mut state);
-    let next = carry_on(powered, session, advances, ring, fram, &staging, &state);
-    print_memories(key, ring, fram);
+    let next = carry_on(rt, powered, session, advances, ring, fram, &staging, &state);
+    print_memories(rt, key, ring, fram);
     next
 }

@@ -2,6 +2,14 @@
 
 ghost use Rattle.std.specs.Prelude.{◌≤◌};
 
+use bench_io::{Console, argument_count, fail, file_name};
+use std::env::Env;
+use std::fs::Files;
+use std::{fs, io};
+
+// The longest name of a file that is read.
+const NAME_LIMIT: usize = 4096;
+
 // The value of a decimal digit, or 41 for another byte.
 fn digit_value(b: u8) -> usize
     ensures { result ≤ 41 }
@@ -26,34 +34,35 @@ fn number_of(text: &[u8]) -> usize {
 }
 
 // The number of the last cut: 40 where the arguments do not name one, and 0 where they are wrong.
-pub fn last_cut() -> usize {
-    let count = os::arg_count();
+pub fn last_cut(rt: &impl Env) -> usize {
+    let count = argument_count(rt);
     if count == 4 {
         let mut text = [0u8; 8];
-        let n = os::arg(3, &mut text);
-        return number_of(&text[..n]);
+        return match rt.arg(3, &mut text) {
+            Ok(n) => number_of(&text[..n]),
+            Err(_) => 0,
+        };
     }
     if (count == 2) | (4 < count) { 0 } else { 40 }
 }
 
-fn write_image(argument: usize, image: &[u8]) {
-    let mut name = io::buffer();
-    let n = os::arg(argument, &mut name);
-    let file = os::open_overwrite(&name[..n]);
-    if file < 0 {
-        os::fail(&name[..n]);
-        return;
+// Writes a file, and puts it in the place of one that there is.
+fn write_file<R: Files>(rt: &R, name: &[u8], image: &[u8]) -> io::Result<()> {
+    fs::write(rt, file_name(name)?, image)
+}
+
+fn write_image<R: Console + Files>(rt: &R, argument: usize, image: &[u8]) {
+    let mut name = [0u8; NAME_LIMIT];
+    let n = rt.arg(argument, &mut name).unwrap_or(0);
+    if let Err(error) = write_file(rt, &name[..n], image) {
+        fail(rt, &name[..n], error);
     }
-    if !io::write_all(file, image) {
-        os::fail(&name[..n]);
-    }
-    libc::close(file);
 }
 
 // Writes the images at the last cut, where the arguments name files.
-pub fn write_images_if(last: bool, ring: &[u8], fram: &[u8]) {
-    if last & (2 < os::arg_count()) {
-        write_image(1, ring);
-        write_image(2, fram);
+pub fn write_images_if<R: Console + Files>(rt: &R, last: bool, ring: &[u8], fram: &[u8]) {
+    if last & (2 < argument_count(rt)) {
+        write_image(rt, 1, ring);
+        write_image(rt, 2, fram);
     }
 }

@@ -2,127 +2,126 @@
 use crate::plan::Left;
 use demo_book::values::{PAGES, SLOTS};
 use keeper::{Job, Phase};
-use libc::STDOUT_FILENO;
 use ring_line::ring_line;
 
-pub fn print(text: &[u8]) {
-    io::write_all(STDOUT_FILENO, text);
+pub fn print(rt: &impl Print, text: &[u8]) {
+    let _ = rt.write_all(text);
 }
 
-fn print_number(n: usize) {
-    io::print_decimal(STDOUT_FILENO, n as u64);
+fn print_number(rt: &impl Print, n: usize) {
+    let _ = rt.print(n);
 }
 
-pub fn print_count(name: &[u8], n: usize) {
-    print(name);
-    print_number(n);
+pub fn print_count(rt: &impl Print, name: &[u8], n: usize) {
+    print(rt, name);
+    print_number(rt, n);
 }
 
 // A number in two columns.
-fn print_two(n: usize) {
+fn print_two(rt: &impl Print, n: usize) {
     if n < 10 {
-        print(b" ");
+        print(rt, b" ");
     }
-    print_number(n);
+    print_number(rt, n);
 }
 
 // The number of a cut.
-pub fn print_cut(k: usize) {
-    print(b" ");
-    print_two(k);
-    print(b"  ");
+pub fn print_cut(rt: &impl Print, k: usize) {
+    print(rt, b" ");
+    print_two(rt, k);
+    print(rt, b"  ");
 }
 
 // The restarts and the packet number, at the end of a line.
-pub fn print_counts(name: &[u8], restarts: usize, packet: usize) {
-    print_count(name, restarts);
-    print(b"        ");
-    print_two(packet);
-    print(b"\n");
+pub fn print_counts(rt: &impl Print, name: &[u8], restarts: usize, packet: usize) {
+    print_count(rt, name, restarts);
+    print(rt, b"        ");
+    print_two(rt, packet);
+    print(rt, b"\n");
 }
 
 // The save that the power failed in.
-pub fn print_save(recorded: bool, n: usize) {
+pub fn print_save(rt: &impl Print, recorded: bool, n: usize) {
     if recorded {
-        print(b"save ");
-        print_two(n);
-        print(b"     ");
+        print(rt, b"save ");
+        print_two(rt, n);
+        print(rt, b"     ");
     } else {
-        print(b"first save  ");
+        print(rt, b"first save  ");
     }
 }
 
-fn print_word(job: Job, word: usize) {
+fn print_word(rt: &impl Print, job: Job, word: usize) {
     if job.half == 0 {
-        print(b"A word ");
+        print(rt, b"A word ");
     } else {
-        print(b"B word ");
+        print(rt, b"B word ");
     }
-    print_two(word % 16 + 1);
-    print(b" of ");
-    print_two(job.length / 4);
-    print(b"    ");
+    print_two(rt, word % 16 + 1);
+    print(rt, b" of ");
+    print_two(rt, job.length / 4);
+    print(rt, b"    ");
 }
 
-fn print_erase(name: &[u8], page: usize) {
-    print(name);
-    print_number(page);
-    print(b"  ");
+fn print_erase(rt: &impl Print, name: &[u8], page: usize) {
+    print(rt, name);
+    print_number(rt, page);
+    print(rt, b"  ");
 }
 
 // The store that the power failed in.
-fn print_store(job: Job) {
+fn print_store(rt: &impl Print, job: Job) {
     let phase = job.phase;
     match phase {
-        Phase::EraseFirst(page) => print_erase(b"erase first, pg ", page),
-        Phase::Words(word) => print_word(job, word),
-        Phase::Record => print(b"the record         "),
-        Phase::EraseAfter(page) => print_erase(b"erase after, pg ", page),
-        Phase::Done => print(b"after the end      "),
+        Phase::EraseFirst(page) => print_erase(rt, b"erase first, pg ", page),
+        Phase::Words(word) => print_word(rt, job, word),
+        Phase::Record => print(rt, b"the record         "),
+        Phase::EraseAfter(page) => print_erase(rt, b"erase after, pg ", page),
+        Phase::Done => print(rt, b"after the end      "),
     }
 }
 
-fn print_before_word(word: usize) {
-    print(b"before word ");
-    print_two(word % 16 + 1);
-    print(b"     ");
+fn print_before_word(rt: &impl Print, word: usize) {
+    print(rt, b"before word ");
+    print_two(rt, word % 16 + 1);
+    print(rt, b"     ");
 }
 
 // The store that would have come next.
-fn print_before(job: Job) {
+fn print_before(rt: &impl Print, job: Job) {
     let phase = job.phase;
     match phase {
-        Phase::EraseFirst(_) => print(b"before the erase   "),
-        Phase::Words(word) => print_before_word(word),
-        Phase::Record => print(b"before the record  "),
-        Phase::EraseAfter(_) => print(b"before the erase   "),
-        Phase::Done => print(b"after the end      "),
+        Phase::EraseFirst(_) => print(rt, b"before the erase   "),
+        Phase::Words(word) => print_before_word(rt, word),
+        Phase::Record => print(rt, b"before the record  "),
+        Phase::EraseAfter(_) => print(rt, b"before the erase   "),
+        Phase::Done => print(rt, b"after the end      "),
     }
 }
 
-fn print_left(left: Left) {
+fn print_left(rt: &impl Print, left: Left) {
     match left {
-        Left::NoStore => print(b"-        "),
-        Left::Nothing => print(b"nothing  "),
-        Left::Half => print(b"half     "),
-        Left::Whole => print(b"whole    "),
-        Left::Zeros => print(b"zeros    "),
-        Left::Ones => print(b"ones     "),
-        Left::Noise => print(b"noise    "),
+        Left::NoStore => print(rt, b"-        "),
+        Left::Nothing => print(rt, b"nothing  "),
+        Left::Half => print(rt, b"half     "),
+        Left::Whole => print(rt, b"whole    "),
+        Left::Zeros => print(rt, b"zeros    "),
+        Left::Ones => print(rt, b"ones     "),
+        Left::Noise => print(rt, b"noise    "),
     }
 }
 
 // Where the power failed, and what that left of the store.
-pub fn print_place(job: Job, left: Left) {
+pub fn print_place(rt: &impl Print, job: Job, left: Left) {
     match left {
-        Left::NoStore => print_before(job),
-        _ => print_store(job),
+        Left::NoStore => print_before(rt, job),
+        _ => print_store(rt, job),
     }
-    print_left(left);
+    print_left(rt, left);
 }
 
 // What ringview says of the ring, in 35 columns.
-pub fn print_ring(ring: &[u8]) {
+pub fn print_ring(rt: &impl Print, ring: &[u8]) {
     let line = ring_line(ring, PAGES, SLOTS);
     let bytes = line.bytes;
     let length = line.length;
@@ -130,9 +129,9 @@ pub fn print_ring(ring: &[u8]) {
         return;
     }
     let end = length - 1;
-    print(&bytes[..end]);
+    print(rt, &bytes[..end]);
     if end < 35 {
         let spaces = [0x20u8; 35];
-        print(&spaces[end..]);
+        print(rt, &spaces[end..]);
     }
 }

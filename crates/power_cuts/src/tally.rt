@@ -62,31 +62,31 @@ impl Tally {
     }
 
     // Writes which cuts differ, and answers whether any does.
-    fn print_differing(self) -> bool {
+    fn print_differing(self, rt: &impl Print) -> bool {
         let differs = self.differs;
         let mut any = false;
         for i in 0..40usize {
             if differs[i] {
                 any = true;
-                print_count(b"not as the book has it: cut ", i + 1);
-                print(b"\n");
+                print_count(rt, b"not as the book has it: cut ", i + 1);
+                print(rt, b"\n");
             }
         }
         any
     }
 
-    pub fn print(self, cuts: usize) {
-        print_count(b"\ncuts ", cuts);
-        print_count(b": resumed ", self.resumed);
-        print_count(b", nothing recorded ", self.empty);
-        print_count(b", alerts ", self.alerts);
-        print_count(b", power-up cut again ", self.again);
-        print_count(b"\nrestarts at the most ", self.most);
-        print_count(b", pages erased ", self.erased);
-        print(b"\n");
+    pub fn print(self, rt: &impl Print, cuts: usize) {
+        print_count(rt, b"\ncuts ", cuts);
+        print_count(rt, b": resumed ", self.resumed);
+        print_count(rt, b", nothing recorded ", self.empty);
+        print_count(rt, b", alerts ", self.alerts);
+        print_count(rt, b", power-up cut again ", self.again);
+        print_count(rt, b"\nrestarts at the most ", self.most);
+        print_count(rt, b", pages erased ", self.erased);
+        print(rt, b"\n");
         if self.print_differing() {
             return;
         }
-        print(b"every power-up resumed the checkpoint recorded last, or stopped as it must\n");
+        print(rt, b"every power-up resumed the checkpoint recorded last, or stopped as it must\n");
     }
 }

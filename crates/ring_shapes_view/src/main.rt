@@ -6,10 +6,11 @@
 ghost use Rattle.std.specs.Prelude.{◌≡◌, ◌+◌, ◌*◌, ◌≤◌, length};
 ghost use Rattle.octets.specs.Limits.{slot_length, shape_pages_limit, shape_slots_limit};
 
-use bench_io::{complain, number_argument, refuse, write_out};
+use bench_io::{Console, argument_count, number_argument, refuse, write_out};
 use octets::limits::{PAGES_LEAST, SHAPE_PAGES_LIMIT, SHAPE_SLOTS_LIMIT, SLOT_LENGTH, SLOTS_LEAST};
 use ring_line::ring_line;
 use ring_shapes::ring_shape;
+use std::env::Env;
 use stops::Check;
 
 // The number of the last ring of the largest size.
@@ -27,7 +28,7 @@ struct Size {
 }
 
 // The size that the arguments name; 3 by 2 where there are none.
-fn size_named(count: usize) -> Size
+fn size_named(rt: &impl Env, count: usize) -> Size
     ensures { (result.pages ≤ shape_pages_limit + 1) × (result.slots ≤ shape_slots_limit + 1) }
 {
     if count < 2 {
@@ -37,8 +38,8 @@ fn size_named(count: usize) -> Size
             slots: SLOTS_LEAST,
         };
     }
-    let pages = number_argument(1, SHAPE_PAGES_LIMIT);
-    let slots = number_argument(2, SHAPE_SLOTS_LIMIT);
+    let pages = number_argument(rt, 1, SHAPE_PAGES_LIMIT);
+    let slots = number_argument(rt, 2, SHAPE_SLOTS_LIMIT);
     Size {
         is_size: pages.is_number & slots.is_number,
         pages: pages.value,
@@ -55,7 +56,13 @@ fn ring_length(pages: usize, slots: usize) -> usize
 }
 
 // Makes a ring in the buffer and writes its line.
-fn write_line(pages: usize, slots: usize, number: usize, ring: &mut [u8]) -> Check {
+fn write_line(
+    rt: &impl Console,
+    pages: usize,
+    slots: usize,
+    number: usize,
+    ring: &mut [u8],
+) -> Check {
     let check = ring_shape(pages, slots, number, ring);
     match check {
         Check::Stopped(stop) => Check::Stopped(stop),
@@ -63,20 +70,20 @@ fn write_line(pages: usize, slots: usize, number: usize, ring: &mut [u8]) -> Che
             let line = ring_line(ring, pages, slots);
             let bytes = line.bytes;
             let length = line.length;
-            write_out(&bytes[..length]);
+            write_out(rt, &bytes[..length]);
             Check::Pass
         }
     }
 }
 
 // Writes the line of every ring of a size, up to the number that is past the last.
-fn write_lines(pages: usize, slots: usize, ring: &mut [u8]) {
+fn write_lines(rt: &impl Console, pages: usize, slots: usize, ring: &mut [u8]) {
     for number in 0..LAST + 1 {
-        match write_line(pages, slots, number, ring) {
+        match write_line(rt, pages, slots, number, ring) {
             Check::Pass => {}
             Check::Stopped(stop) => {
                 if number == 0 {
-                    refuse(stop);
+                    refuse(rt, stop);
                 }
                 return;
             }
@@ -85,45 +92,45 @@ fn write_lines(pages: usize, slots: usize, ring: &mut [u8]) {
 }
 
 // Writes a ring as bytes.
-fn write_ring(pages: usize, slots: usize, number: usize, ring: &mut [u8]) {
+fn write_ring(rt: &impl Console, pages: usize, slots: usize, number: usize, ring: &mut [u8]) {
     let check = ring_shape(pages, slots, number, ring);
     match check {
-        Check::Stopped(stop) => refuse(stop),
-        Check::Pass => write_out(ring),
+        Check::Stopped(stop) => refuse(rt, stop),
+        Check::Pass => write_out(rt, ring),
     }
 }
 
-fn usage() {
-    complain(b"usage: ring_shapes_view [PAGES SLOTS [NUMBER]]; 3 by 2 if no size is given\n");
+fn usage(rt: &impl Console) {
+    rt.complain(b"usage: ring_shapes_view [PAGES SLOTS [NUMBER]]; 3 by 2 if no size is given\n");
 }
 
 // The whole run, in a buffer for the ring.
-fn run(room: &mut [u8])
+fn run(rt: &impl Console, room: &mut [u8])
     requires { length room.old ≡ slot_length * (shape_pages_limit + 1) * (shape_slots_limit + 1) }
 {
     // The program's own name is the first of them.
-    let count = os::arg_count();
-    let size = size_named(count);
+    let count = argument_count(rt);
+    let size = size_named(rt, count);
     if !size.is_size | (count > 4) {
-        usage();
+        usage(rt);
         return;
     }
     let pages = size.pages;
     let slots = size.slots;
     let n = ring_length(pages, slots);
     if count < 4 {
-        write_lines(pages, slots, &mut room[..n]);
+        write_lines(rt, pages, slots, &mut room[..n]);
         return;
     }
-    let number = number_argument(3, LAST);
+    let number = number_argument(rt, 3, LAST);
     if number.is_number {
-        write_ring(pages, slots, number.value, &mut room[..n]);
+        write_ring(rt, pages, slots, number.value, &mut room[..n]);
     } else {
-        usage();
+        usage(rt);
     }
 }
 
-fn main() {
+fn main(rt: HostRuntime) {
     let mut room = [0u8; ROOM];
-    run(&mut room);
+    run(&rt, &mut room);
 }

@@ -2,8 +2,8 @@
 // A line of the file that begins with '#' is written as it is; any other is a ring in hexadecimal.
 #![tactic(auto)]
 
+use bench_io::read_file;
 use hex_digits::decode;
-use libc::STDOUT_FILENO;
 use vectors::until;
 
 const LINE_FEED: u8 = 0x0A;
@@ -11,10 +11,10 @@ const LINE_FEED: u8 = 0x0A;
 const LONGEST: usize = 1000;
 
 // Writes the state of the ring whose digits are given.
-fn show_ring(digits: &[u8]) {
+fn show_ring(rt: &impl Print, digits: &[u8]) {
     let n = digits.len() / 2;
     if n > LONGEST {
-        io::write_all(STDOUT_FILENO, b"too long\n");
+        let _ = rt.write_all(b"too long\n");
         return;
     }
     let mut bytes = [0u8; 1000];
@@ -22,38 +22,34 @@ fn show_ring(digits: &[u8]) {
     let line = ring_line::ring_line(&bytes[..n], 3, 2);
     let text = line.bytes;
     let length = line.length;
-    io::write_all(STDOUT_FILENO, &text[..length]);
+    let _ = rt.write_all(&text[..length]);
 }
 
-fn show(line: &[u8]) {
+fn show(rt: &impl Print, line: &[u8]) {
     if line.len() > 0 {
         if line[0] == b'#' {
-            io::write_all(STDOUT_FILENO, line);
-            io::write_all(STDOUT_FILENO, b"\n");
+            let _ = rt.write_all(line);
+            let _ = rt.write_all(b"\n");
             return;
         }
     }
-    show_ring(line);
+    show_ring(rt, line);
 }
 
-fn show_lines(s: &[u8]) {
+fn show_lines(rt: &impl Print, s: &[u8]) {
     let mut at = 0;
     while at < s.len() {
         let n = until(&s[at..], LINE_FEED);
         let end = at + n;
-        show(&s[at..end]);
+        show(rt, &s[at..end]);
         at = end + 1;
     }
 }
 
-fn main() {
-    let file = os::open_read(b"rings.txt");
-    if file < 0 {
-        os::fail(b"rings.txt");
-        return;
+fn main(rt: HostRuntime) {
+    let mut text = [0u8; 65_536];
+    let loaded = read_file(&rt, b"rings.txt", &mut text);
+    if loaded.is_read {
+        show_lines(&rt, &text[..loaded.length]);
     }
-    let mut text = io::large_buffer();
-    let n = io::read_full(file, &mut text);
-    libc::close(file);
-    show_lines(&text[..n]);
 }

@@ -3,8 +3,7 @@
 // standard input cannot be read or is longer than any open part, standard error says so. The exit status does not tell.
 #![tactic(auto)]
 
-use bench_io::{answer_refused, complain, not_written, read_open};
-use libc::{STDIN_FILENO, STDOUT_FILENO};
+use bench_io::{Console, answer_refused, not_written, read_open};
 use octets::limits::PART_LIMIT;
 use settings::{ALERT_DELAY, LIST_VERSION, Settings, VOLUME, kind_at, settings_read, value_at};
 
@@ -12,58 +11,56 @@ use settings::{ALERT_DELAY, LIST_VERSION, Settings, VOLUME, kind_at, settings_re
 const ROOM: usize = PART_LIMIT + 1;
 
 // Writes words, a number and what stands behind it; whether all was taken.
-fn write_line(words: &[u8], number: u32, end: &[u8]) -> bool {
-    io::write_all(STDOUT_FILENO, words)
-        & io::print_decimal(STDOUT_FILENO, number as u64)
-        & io::write_all(STDOUT_FILENO, end)
+fn write_line(rt: &impl Print, words: &[u8], number: u32, end: &[u8]) -> bool {
+    rt.write_all(words).is_ok() & rt.print(number).is_ok() & rt.write_all(end).is_ok()
 }
 
 // Writes the line of a word; whether all was taken.
-fn write_word(kind: u32, value: u32) -> bool {
+fn write_word(rt: &impl Print, kind: u32, value: u32) -> bool {
     if kind == LIST_VERSION {
-        return write_line(b"version ", value, b"\n");
+        return write_line(rt, b"version ", value, b"\n");
     }
     if kind == VOLUME {
-        return write_line(b"volume ", value, b"\n");
+        return write_line(rt, b"volume ", value, b"\n");
     }
     if kind == ALERT_DELAY {
-        return write_line(b"alert delay ", value, b" s\n");
+        return write_line(rt, b"alert delay ", value, b" s\n");
     }
-    write_line(b"kind ", kind, b": ") & write_line(b"", value, b"\n")
+    write_line(rt, b"kind ", kind, b": ") & write_line(rt, b"", value, b"\n")
 }
 
 // Writes the lines of a list, or complains once.
-fn write_words(list: &[u8]) {
+fn write_words(rt: &impl Console, list: &[u8]) {
     for i in 0..list.len() / 4 {
-        if !write_word(kind_at(list, i), value_at(list, i)) {
-            not_written();
+        if !write_word(rt, kind_at(list, i), value_at(list, i)) {
+            not_written(rt);
             return;
         }
     }
 }
 
 // What is written of a list.
-fn show(list: &[u8]) {
+fn show(rt: &impl Console, list: &[u8]) {
     let settings = settings_read(list);
     match settings {
         Settings::Read {
             volume: _,
             delay: _,
-        } => write_words(list),
-        Settings::Unread(stop) => answer_refused(stop),
+        } => write_words(rt, list),
+        Settings::Unread(stop) => answer_refused(rt, stop),
     }
 }
 
-fn main() {
+fn main(rt: HostRuntime) {
     let mut list = [0u8; ROOM];
-    let loaded = read_open(STDIN_FILENO, b"list: ", b"standard input", &mut list);
+    let loaded = read_open(&rt, &mut rt.reader(), b"list: ", b"standard input", &mut list);
     if !loaded.is_read {
         return;
     }
     let length = loaded.length;
     if length > PART_LIMIT {
-        complain(b"list: standard input is longer than an open part\n");
+        rt.complain(b"list: standard input is longer than an open part\n");
         return;
     }
-    show(&list[..length]);
+    show(&rt, &list[..length]);
 }
