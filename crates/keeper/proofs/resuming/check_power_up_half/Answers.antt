@@ -5,7 +5,6 @@ use mathlib.Core.Option.{Option, some}
 use mathlib.Core.List.{List, ◌∷◌}
 use Prim.Native.Nat.{ℕ}
 use lib.ListN.{take}
-use borrow.Author.Rules.{rules}
 use Rattle.octets.specs.Limits.{nonce_length, part_limit}
 use Rattle.octets.specs.Octets.{part}
 use Rattle.stops.specs.Stops.{first_of}
@@ -15,8 +14,7 @@ use Rattle.checkpoint.specs.Half.{form_of, good_head, good_tag}
 use Rattle.resealing.specs.Stages.{opening_lines}
 use Rattle.keeper.specs.Stages.{power_up_half}
 use Rattle.keeper.proofs.PowerUpLaws.{half_long_enough}
-use Rattle.keeper.proofs.resuming.check_power_up_half.Statement.{statement}
-use Rattle.keeper.proofs.resuming.check_power_up_half.Tie as tie
+use Rattle.keeper.proofs.resuming.check_power_up_half.Goals as goal
 
 -- said of the half that the record names
 module _ (key newest fram : List ℕ) (used : Bool) (h : ℕ) (half : List ℕ) (x : h ≡ half_named newest) (y : half ≡ half_at fram h) where
@@ -39,43 +37,29 @@ module _ (key newest fram : List ℕ) (used : Bool) (h : ℕ) (half : List ℕ) 
       let first : some 11 ≡ first_of (lines half (take nonce_length newest)) = rw bad in
       first ∙ (λ i. first_of (lines (half_is i) (take nonce_length newest)))
 
-read_head_requires : tie.Need-read-head-requires
-read_head_requires c κs =
-    let s = c.before.before.before.before.before in
-    half_long_enough s.args.fram.now c.half_at.result.now s.requires.0 c.half_at.ensures.1
+pub read_head-head-requires : goal.read_head-head-requires
+read_head-head-requires c =
+    half_long_enough c.args.fram.now c.half_at-half.result.now c.requires.0 c.half_at-half.ensures.1
 
-good_tag_under_requires : tie.Need-good-tag-under-requires
-good_tag_under_requires c κs =
-    let p = c.before.before.before.before.before.before.before.before.requires in
-    let head = c.before.before.read_head.ensures in
-    (p.1, c.part.ensures.1, sym head.0 ∙ c.before.if1.true, head.1, head.3, head.4)
+pub good_tag_under-good-requires : goal.good_tag_under-good-requires
+good_tag_under-good-requires c =
+    let p = c.requires in
+    let head = c.read_head-head.ensures in
+    (p.1, c.part-latest.ensures.1, sym head.0 ∙ c.if-head.true, head.1, head.3, head.4)
 
-check_opening_requires : tie.Need-check-opening-requires
-check_opening_requires c κs =
-    let head = c.before.before.before.read_head.ensures in
+pub check_opening-requires : goal.check_opening-requires
+check_opening-requires c =
+    let head = c.read_head-head.ensures in
     record { start = head.1; packet = head.2; open_part = head.3; secret = head.4; restarts = head.5 }
 
-returns : tie.Need-returns
+pub returns-then-head : goal.returns-then-head
+returns-then-head c =
+    let a = c.args in
+    opened a.key.now a.«record».now a.fram.now a.used _ _ c.half_named.ensures c.half_at-half.ensures.0 _ _ _
+    c.part-latest.ensures.0 (sym c.read_head-head.ensures.0 ∙ c.if-head.true) c.good_tag_under-good.ensures c.check_opening.ensures
+
+pub returns : goal.returns
 returns c =
-    let a = c.before.before.before.before.before.before.before.before.before.before.args in
-    opened a.key.now a.«record».now a.fram.now a.used _ _ c.before.before.before.before.before.before.half_named.ensures c.before.before.before.before.before.half_at.ensures.0 _ _ _
-    c.before.before.part.ensures.0 (sym c.before.before.before.before.read_head.ensures.0 ∙ c.before.before.before.if1.true) c.before.good-tag-under.ensures c.check-opening.ensures
-
-returns_2 : tie.Need-returns-2
-returns_2 c =
-    let a = c.before.before.before.before.before.before.before.args in
-    not_opened a.key.now a.«record».now a.fram.now a.used _ _ c.before.before.before.half_named.ensures c.before.before.half_at.ensures.0
-    (sym c.before.read_head.ensures.0 ∙ c.if1.false)
-
-pub check_power_up_half_spec : {M : Type 1} → statement M
-check_power_up_half_spec =
-    tie.close
-    (tie.spec
-    (λ c κs. search rules)
-    (λ c κs. search rules)
-    read_head_requires
-    (λ c κs. search rules)
-    good_tag_under_requires
-    check_opening_requires
-    returns
-    returns_2)
+    let a = c.args in
+    not_opened a.key.now a.«record».now a.fram.now a.used _ _ c.half_named.ensures c.half_at-half.ensures.0
+    (sym c.read_head-head.ensures.0 ∙ c.if-head.false)
