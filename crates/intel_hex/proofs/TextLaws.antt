@@ -16,7 +16,7 @@ use Rattle.octets.proofs.Laws.{drop_take}
 use Rattle.stops.specs.Stops.{first_of}
 use Rattle.hex_digits.specs.Digits.{is_digit, all_digits}
 use Rattle.hex_digits.proofs.Laws.{digit_at}
-use Rattle.hex_lines.specs.Format.{mark, line_feed, carriage_return, data_line, upper_line, boundary, checksum}
+use Rattle.hex_lines.specs.Format.{mark, line_feed, carriage_return, data_line, upper_line, boundary}
 use Rattle.hex_lines.specs.Line.{data_length, address, kind, shape_wrong, malformed, checksum_wrong}
 use Rattle.hex_lines.specs.Inner.{line_end, Begins}
 use Rattle.hex_lines.proofs.ReadLaws.{good, Ends, feed, return_feed, ends, end_inside, end_is_feed, end_is_return, Same, at_front, byte_front, same_front, not_malformed, line_size, Frame, frame_begins}

@@ -4,7 +4,6 @@ use Rattle.std.proofs.Math.Option.{Option, none}
 use Rattle.stops.specs.Stops.{first_of}
 use Rattle.stops.specs.View.{check_number}
 use Rattle.hex_lines.specs.Format.{data_line, boundary}
-use Rattle.hex_lines.specs.Line.{address, kind}
 use Rattle.intel_hex.specs.Export.{line_count}
 use Rattle.intel_hex.specs.Import.{misplaced, or_else, text_stop, lines_of}
 use Rattle.intel_hex.specs.declared.import.Reading.{Reading}

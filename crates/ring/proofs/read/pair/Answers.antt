@@ -1,6 +1,5 @@
 -- `ring::read::pair` meets its contract: which page follows picks the case of the definition. Assumes nothing.
 use borrow.Author.Tests.{eq-eqb, ne_eqb}
-use borrow.Author.Rules.{rules}
 use Rattle.ring.specs.Ring.{reading}
 use Rattle.ring.proofs.read.pair.Goals as goal
 
@@ -27,6 +26,3 @@ returns c =
       ← c.next_page-2.ensures,
       ne_eqb _ _ c.if-p-next_page.false,
     )
-
-pub followed-requires-then-p-next_page : goal.followed-requires-then-p-next_page
-followed-requires-then-p-next_page c = search rules

@@ -1,7 +1,6 @@
 -- `ring::read::read_ring` meets its contract: up to three searches show how the list of used pages begins, and so which case of the definition holds. Assumes nothing.
 use mathlib.Core.Path.{sym, ◌∙◌}
 use native.Mathlib.Omega.{arith}
-use borrow.Author.Rules.{rules}
 use Rattle.ring.proofs.PassLaws.{read_none, read_one, read_two, read_more, and_within}
 use Rattle.ring.proofs.read.read_ring.Goals as goal
 
@@ -26,6 +25,3 @@ returns c =
     (c.pair.ensures
     ∙ sym (read_two _ _ _ c.next_used-p.ensures c.next_used-q.ensures (omega arith)
     c.next_used.ensures (omega arith) (omega arith)))
-
-pub alone-requires : goal.alone-requires
-alone-requires c = search rules

@@ -1,0 +1,8 @@
+-- `constant_time::constant_time_product` meets its contract. Assumes nothing.
+use mathlib.Core.Path.{ap₂, ◌∙◌}
+use Rattle.ghash.specs.Ghash.{◌•◌}
+use Rattle.constant_time.proofs.constant_time_product.Goals as goal
+
+pub returns : goal.returns
+returns c =
+    c.product-p.ensures _ c.steps-t.ensures ∙ ap₂ ◌•◌ c.block_at-2.ensures c.block_at.ensures

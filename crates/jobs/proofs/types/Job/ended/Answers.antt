@@ -1,0 +1,7 @@
+-- `jobs::types::Job::ended` meets its contract. Assumes nothing.
+use Rattle.protocol.specs.Operations.{ended}
+use Rattle.jobs.proofs.types.Job.ended.Goals as goal
+
+pub returns : goal.returns
+unfolding ended
+returns c ring fram = rw (c.finished-progress.ensures, c.in_phase-job.ensures, c.session-session.ensures)
