@@ -289,7 +289,15 @@ fn show_reading(rt: &impl Print, c: Case)
 }
 
 // Prints how the first n bytes of a half with the checkpoint read, with one byte changed, which then comes back.
-fn show_change(rt: &impl Print, name: &[u8], c: Case, half: &mut [u8], n: usize, at: usize, byte: u8)
+fn show_change(
+    rt: &impl Print,
+    name: &[u8],
+    c: Case,
+    half: &mut [u8],
+    n: usize,
+    at: usize,
+    byte: u8,
+)
     requires { (n ≤ 65584) × (at < 65584) × (length half.old ≡ 65584) }
     ensures { length half.new ≡ 65584 }
 {
