@@ -6,11 +6,11 @@
 SHELL := /bin/bash
 .PHONY: test demo hosts bench kit
 
-# rt ci goes first, for it removes target/ and leaves there what the archive for C and Rust is made of. Its last line is
-# held back until the tests in C and Rust have passed too.
+# rt ci goes first; its last line is held back until the tests in C and Rust have passed too. An edit that can't be applied fails as well.
 test: kit
 	@log=$$(mktemp); trap 'rm -f "$$log"' EXIT; set -o pipefail; \
 	rt ci | tee "$$log" | sed -u '$$d' || { tail -n 1 "$$log"; exit 1; }; \
+	if grep -qE '^rt: ok.*, [1-9][0-9]* bad' "$$log"; then echo 'FAILED: a must-fail edit is a BAD EDIT'; exit 1; fi; \
 	hosts/test && tail -n 1 "$$log"
 
 hosts: kit
@@ -18,7 +18,7 @@ hosts: kit
 
 demo: kit
 	@mkdir -p target/demo
-	rt check power_cuts ringview hex_export hex_import bench_trace ring_shapes_view factory_view chain_view settings_view > /dev/null
+	@hosts/build power_cuts ringview hex_export hex_import bench_trace ring_shapes_view factory_view chain_view settings_view
 	@target/bin/power_cuts target/demo/ring.bin target/demo/fram.bin
 	@printf '\nThe memories as the last cut left them:\n'
 	@echo '    xxd -g 4 -c 20 target/demo/fram.bin'
@@ -26,8 +26,7 @@ demo: kit
 	@target/bin/ringview < target/demo/ring.bin
 
 bench: kit
-	@rt staticlib keeper_c
-	@rt check hex_export hex_import > /dev/null
+	@hosts/build keeper_c hex_export hex_import
 	@sh hosts/bench/run.sh
 
 kit:

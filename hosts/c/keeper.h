@@ -1,6 +1,6 @@
 /* The checkpoint keeper of a baby monitor's parent unit: the calls for C.
  *
- * Link target/staticlib/libkeeper_c.a, which `rt staticlib keeper_c` makes for x86-64 Linux; size_t is 64 bits. The library is proved: every
+ * Link target/staticlib/libkeeper_c.a, which `hosts/build keeper_c` makes for x86-64 Linux; size_t is 64 bits. The library is proved: every
  * call ends, and answers and leaves in the caller's memory what its contract in crates/keeper_c/src says, for all numbers and bytes that it
  * can be given. It keeps no state, has no heap, and calls nothing but memcpy and memset. Nothing checks this header against it; it was
  * written from the functions marked `extern "C"` there.

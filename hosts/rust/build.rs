@@ -1,6 +1,6 @@
 //! Links the archive of the proved calls, `libkeeper_c.a`.
 //!
-//! It is made by `rt staticlib keeper_c` at the repository's root, unless the one in `target/staticlib` is newer than
+//! It is made by `hosts/build keeper_c` at the repository's root, unless the one in `target/staticlib` is newer than
 //! every file that it is made from. The variable `KEEPER_ARCHIVE` names another archive instead.
 
 use std::collections::BTreeSet;
@@ -46,10 +46,10 @@ fn made_here() -> PathBuf {
 }
 
 fn make(root: &Path) {
-    match Command::new("rt").args(["staticlib", "keeper_c"]).current_dir(root).output() {
-        Err(why) => fail(&format!("rt, the command of the Rattle kit: {why}")),
+    match Command::new("hosts/build").arg("keeper_c").current_dir(root).output() {
+        Err(why) => fail(&format!("hosts/build: {why}")),
         Ok(ran) if !ran.status.success() => fail(&format!(
-            "rt staticlib keeper_c failed\n{}{}",
+            "hosts/build keeper_c failed\n{}{}",
             String::from_utf8_lossy(&ran.stdout),
             String::from_utf8_lossy(&ran.stderr)
         )),
