@@ -35,12 +35,10 @@ loop-i-init c = (search rules, search rules, ((λ e. below_none _), (λ agree. r
 
 pub loop-i-preserved : goal.loop-i-preserved
 loop-i-preserved c =
-    
     (search rules, search rules, more c.args.a.now c.args.b.now _ _ c.loop-i.invariant.2)
 
 pub returns : goal.returns
 returns c =
-    
     let a = c.args.a.now in
     let b = c.args.b.now in (
       (λ zero. ext_get_or 0 a b (search rules) (λ k l. c.loop-i.invariant.2.0 zero k (omega arith))),

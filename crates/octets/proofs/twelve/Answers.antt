@@ -5,5 +5,4 @@ use Rattle.octets.proofs.twelve.Goals as goal
 
 pub returns : goal.returns
 returns c =
-    
     over _ c.args.s.now _ (omega (arith, c.requires)) c.copy.ensures

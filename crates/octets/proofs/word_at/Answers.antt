@@ -5,5 +5,4 @@ use Rattle.octets.proofs.word_at.Goals as goal
 
 pub returns : goal.returns
 returns c =
-    
     rw (word_at_is c.args.s.now c.args.i) (search rules)

@@ -21,13 +21,13 @@ reopen-tag-requires c =
 pub returns-in-Stopped : goal.returns-in-Stopped
 returns-in-Stopped c key e =
     let checked : check_number c.check_opening-check.result ≡ first_of (opening_lines c.args.half.now (good_tag (form_of c.args.half.now) key c.args.latest.now c.args.half.now) c.args.used) =
-      c.check_opening-check.ensures ∙ ap (λ (g : Bool). first_of (opening_lines c.args.half.now g c.args.used)) (c.good_tag-good.ensures key e) in
+    c.check_opening-check.ensures ∙ ap (λ (g : Bool). first_of (opening_lines c.args.half.now g c.args.used)) (c.good_tag-good.ensures key e) in
     record { check = sym (ap check_number c.in-Stopped.is) ∙ checked; stops = λ n. (refl, refl); begins = λ n. stopped_not_none n }
 
 pub returns-in-Pass : goal.returns-in-Pass
 returns-in-Pass c key e =
     let checked : check_number c.check_opening-check.result ≡ first_of (opening_lines c.args.half.now (good_tag (form_of c.args.half.now) key c.args.latest.now c.args.half.now) c.args.used) =
-      c.check_opening-check.ensures ∙ ap (λ (g : Bool). first_of (opening_lines c.args.half.now g c.args.used)) (c.good_tag-good.ensures key e) in
+    c.check_opening-check.ensures ∙ ap (λ (g : Bool). first_of (opening_lines c.args.half.now g c.args.used)) (c.good_tag-good.ensures key e) in
     let told = ap check_number c.in-Pass.is in
     let all = sym told ∙ checked in
     let a = c.args in

@@ -1,7 +1,6 @@
 -- `aes::cipher::encrypt_block` meets its contract. The loop's invariant: the state is what the rounds before this one make of the first.
 -- Assumes nothing.
 use mathlib.Core.Path.{◌≡◌, refl}
-use Prim.Native.Nat.{◌-◌}
 use native.Mathlib.Omega.{arith}
 use borrow.Author.Rules.{rules}
 use Rattle.aes.specs.Cipher.{rounds, cipher}

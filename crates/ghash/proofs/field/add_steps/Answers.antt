@@ -1,9 +1,9 @@
 -- `ghash::field::add_steps` meets its contract: after i turns of its loop the sum is Z of `at + i`. Assumes nothing.
 use mathlib.Core.Path.{◌≡◌, sym, ap, ◌∙◌}
-use Prim.Native.Nat.{ℕ, ◌+◌, ◌-◌}
+use Prim.Native.Nat.{ℕ, ◌+◌}
 use native.Mathlib.Nat.{add-zero}
 use native.Mathlib.Omega.{arith}
-use Rattle.ghash.specs.Ghash.{bit, Zᵢ}
+use Rattle.ghash.specs.Ghash.{Zᵢ}
 use Rattle.ghash.proofs.Product.{next_Z, shift_next}
 use Rattle.ghash.proofs.field.add_steps.Goals as goal
 

@@ -30,5 +30,5 @@ pub record-requires : goal.record-requires
 record-requires c =
     let a = c.args in
     let p : Passed a.pages a.slots a.ring.now a.fram.now a.key.now c.find-found.result =
-      passed a.pages a.slots a.ring.now a.fram.now a.key.now _ c.find-found.ensures (ap check_number c.in-Pass.is) in
+    passed a.pages a.slots a.ring.now a.fram.now a.key.now _ c.find-found.ensures (ap check_number c.in-Pass.is) in
     (p.ring_right, p.within)

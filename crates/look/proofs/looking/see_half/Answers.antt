@@ -37,21 +37,20 @@ module _ (newest fram : List ℕ) (h : ℕ) (x : h ≡ half_named newest) (half 
 pub read_head-head-requires : goal.read_head-head-requires
 unfolding half_length
 read_head-head-requires c =
-    
     let z = an_image fram_limit c.args.fram.now c.requires.0 in
     omega (arith, c.half_at-half.ensures.1)
 
 pub overflow_mul-result : goal.overflow_mul-result
 unfolding half_length
 overflow_mul-result c =
-    let within : let fram = c.args.fram.now in c.half_named-number.result * half_length fram + half_length fram ≤ length fram = 
+    let within : let fram = c.args.fram.now in c.half_named-number.result * half_length fram + half_length fram ≤ length fram =
     half_within c.args.fram.now c.half_named-number.result (an_image fram_limit c.args.fram.now c.requires.0) (omega (arith, c.half_named-number.ensures, c.requires.3)) in
     let w = within in omega arith
 
 pub overflow_add-result : goal.overflow_add-result
 unfolding half_length
 overflow_add-result c =
-    let within : let fram = c.args.fram.now in c.half_named-number.result * half_length fram + half_length fram ≤ length fram = 
+    let within : let fram = c.args.fram.now in c.half_named-number.result * half_length fram + half_length fram ≤ length fram =
     half_within c.args.fram.now c.half_named-number.result (an_image fram_limit c.args.fram.now c.requires.0) (omega (arith, c.half_named-number.ensures, c.requires.3)) in
     let w = within in
     let z = an_image fram_limit c.args.fram.now c.requires.0 in
