@@ -40,7 +40,15 @@ fn begin(
 }
 
 // A first save on a blank ring of pages of 2 slots.
-fn try_first_save(rt: &impl Print, name: &[u8], pages: usize, fram: usize, packet: usize, open: usize, secret: usize)
+fn try_first_save(
+    rt: &impl Print,
+    name: &[u8],
+    pages: usize,
+    fram: usize,
+    packet: usize,
+    open: usize,
+    secret: usize,
+)
     requires { (pages ≤ 33) × (fram ≤ 262152) × («open» ≤ 32772) × (secret ≤ 32772) }
 {
     let ring = [0xFFu8; 1056];
@@ -103,9 +111,19 @@ fn try_power_up(rt: &impl Print, name: &[u8], ring: &[u8], state: &mut [u8]) {
 pub fn show_state_bounds(rt: &impl Print) {
     let ring = [0xFFu8; 128];
     let mut short = [0u8; 32_767];
-    try_power_up(rt, b"state buffer of 32767 bytes, power-up", &ring, &mut short);
+    try_power_up(
+        rt,
+        b"state buffer of 32767 bytes, power-up",
+        &ring,
+        &mut short,
+    );
     let mut state = [0u8; 32_768];
-    try_power_up(rt, b"state buffer of 32768 bytes, power-up", &ring, &mut state);
+    try_power_up(
+        rt,
+        b"state buffer of 32768 bytes, power-up",
+        &ring,
+        &mut state,
+    );
 }
 
 // With pages 0 and 2 not blank.
@@ -114,7 +132,12 @@ pub fn show_parted_ring(rt: &impl Print) {
     ring[0] = 0;
     ring[64] = 0;
     let mut state = [0u8; PART_LIMIT];
-    try_power_up(rt, b"pages 0 and 2 of 4 not blank, power-up", &ring, &mut state);
+    try_power_up(
+        rt,
+        b"pages 0 and 2 of 4 not blank, power-up",
+        &ring,
+        &mut state,
+    );
 }
 
 pub fn show_fram_bounds(rt: &impl Print) {
@@ -123,7 +146,15 @@ pub fn show_fram_bounds(rt: &impl Print) {
     try_first_save(rt, b"FRAM of 88 bytes, empty parts", 3, 88, 0, 0, 0);
     try_first_save(rt, b"FRAM of 96 bytes, empty parts", 3, 96, 0, 0, 0);
     try_first_save(rt, b"FRAM of 96 bytes, a word of open part", 3, 96, 0, 4, 0);
-    try_first_save(rt, b"FRAM of 96 bytes, a word of secret part", 3, 96, 0, 0, 4);
+    try_first_save(
+        rt,
+        b"FRAM of 96 bytes, a word of secret part",
+        3,
+        96,
+        0,
+        0,
+        4,
+    );
     try_first_save(rt, b"FRAM of 262144 bytes", 3, 262_144, 0, 0, 0);
     try_first_save(rt, b"FRAM of 262152 bytes", 3, 262_152, 0, 0, 0);
 }

@@ -25,7 +25,14 @@ fn begin(rt: &impl Print, key: &[u8], ring: &mut [u8], fram: &mut [u8]) -> Sessi
 }
 
 // The second save opens a page.
-fn save_twice(rt: &impl Print, key: &[u8], s: Session, value: u8, ring: &mut [u8], fram: &mut [u8]) -> Session
+fn save_twice(
+    rt: &impl Print,
+    key: &[u8],
+    s: Session,
+    value: u8,
+    ring: &mut [u8],
+    fram: &mut [u8],
+) -> Session
     requires { value < 255 }
 {
     let s = do_save(rt, key, s, value, value, STORES, ring, fram);
@@ -33,7 +40,13 @@ fn save_twice(rt: &impl Print, key: &[u8], s: Session, value: u8, ring: &mut [u8
 }
 
 // The values 2 to 7, up to page 0 slot 0 again.
-fn save_around(rt: &impl Print, key: &[u8], first: Session, ring: &mut [u8], fram: &mut [u8]) -> Session {
+fn save_around(
+    rt: &impl Print,
+    key: &[u8],
+    first: Session,
+    ring: &mut [u8],
+    fram: &mut [u8],
+) -> Session {
     let mut s = first;
     for k in 0..3u8 {
         let next = save_twice(rt, key, s, 2 * k + 2, ring, fram);
@@ -43,7 +56,14 @@ fn save_around(rt: &impl Print, key: &[u8], first: Session, ring: &mut [u8], fra
 }
 
 // The second power-up opens a page.
-fn power_up_twice(rt: &impl Print, key: &[u8], s: Session, nonce: u8, ring: &mut [u8], fram: &mut [u8]) -> Session
+fn power_up_twice(
+    rt: &impl Print,
+    key: &[u8],
+    s: Session,
+    nonce: u8,
+    ring: &mut [u8],
+    fram: &mut [u8],
+) -> Session
     requires { nonce < 255 }
 {
     let s = do_power_up(rt, key, s, nonce, STORES, ring, fram);
@@ -51,7 +71,13 @@ fn power_up_twice(rt: &impl Print, key: &[u8], s: Session, nonce: u8, ring: &mut
 }
 
 // Eight power-ups, the last at page 1 slot 0 in half A.
-fn restart(rt: &impl Print, key: &[u8], last: Session, ring: &mut [u8], fram: &mut [u8]) -> Session {
+fn restart(
+    rt: &impl Print,
+    key: &[u8],
+    last: Session,
+    ring: &mut [u8],
+    fram: &mut [u8],
+) -> Session {
     let mut s = last;
     for k in 0..4u8 {
         let next = power_up_twice(rt, key, s, 2 * k + 8, ring, fram);
@@ -67,7 +93,15 @@ fn set_byte(image: &mut [u8], at: usize, b: u8) {
 }
 
 // With a new nonce, and with the newest one: at power-up 11, 12 and 13 go before 10.
-fn refuse_either(rt: &impl Print, key: &[u8], s: Session, new: u8, newest: u8, ring: &mut [u8], fram: &mut [u8]) {
+fn refuse_either(
+    rt: &impl Print,
+    key: &[u8],
+    s: Session,
+    new: u8,
+    newest: u8,
+    ring: &mut [u8],
+    fram: &mut [u8],
+) {
     do_power_up(rt, key, s, new, STORES, ring, fram);
     print(rt, b"with the newest nonce, ");
     do_power_up(rt, key, s, newest, STORES, ring, fram);
@@ -95,7 +129,14 @@ fn refuse_used(rt: &impl Print, key: &[u8], s: Session, ring: &mut [u8], fram: &
     do_power_up(rt, key, s, 16, STORES, ring, fram);
 }
 
-fn refuse_old(rt: &impl Print, key: &[u8], s: Session, first: Session, ring: &mut [u8], fram: &mut [u8]) {
+fn refuse_old(
+    rt: &impl Print,
+    key: &[u8],
+    s: Session,
+    first: Session,
+    ring: &mut [u8],
+    fram: &mut [u8],
+) {
     print(rt, b"with the first session, ");
     do_save(rt, key, first, 9, 17, STORES, ring, fram);
     refuse_used(rt, key, s, ring, fram);
@@ -117,7 +158,13 @@ fn save_after_restarts(
 }
 
 // Power is lost in the words of a save: the checkpoint before is still the newest.
-fn lose_words(rt: &impl Print, key: &[u8], s: Session, ring: &mut [u8], fram: &mut [u8]) -> Session {
+fn lose_words(
+    rt: &impl Print,
+    key: &[u8],
+    s: Session,
+    ring: &mut [u8],
+    fram: &mut [u8],
+) -> Session {
     do_save(rt, key, s, 9, 17, 5, ring, fram);
     print(rt, b"power lost\n");
     let s = do_power_up(rt, key, s, 18, STORES + 1, ring, fram);
@@ -159,7 +206,13 @@ fn refuse_pending(rt: &impl Print, key: &[u8], s: Session, ring: &mut [u8], fram
 }
 
 // Power is lost between a record at page 0 slot 0 and the erase after it: the page before stays pending until a power-up erases it first.
-fn lose_erase(rt: &impl Print, key: &[u8], s: Session, ring: &mut [u8], fram: &mut [u8]) -> Session {
+fn lose_erase(
+    rt: &impl Print,
+    key: &[u8],
+    s: Session,
+    ring: &mut [u8],
+    fram: &mut [u8],
+) -> Session {
     do_save(rt, key, s, 10, 20, STORES, ring, fram);
     print(rt, b"power lost\n");
     refuse_pending(rt, key, s, ring, fram);

@@ -4,8 +4,8 @@ use crate::life::STORES;
 use crate::print::print;
 use crate::unit::{do_power_up, do_save_hearing, print_memories};
 use crate::values::long_key;
-use keeper::{Session, no_session};
 use bench_io::read_full;
+use keeper::{Session, no_session};
 use octets::{copy, part};
 
 // The power-up seals the older checkpoint anew. Packet 0 is not newer than none.
@@ -16,14 +16,26 @@ fn go_on(rt: &impl Print, key: &[u8], ring: &mut [u8], fram: &mut [u8]) -> Sessi
 }
 
 // Packet 7 sets the restarts to 0 once; its repeat does not.
-fn hear_repeats(rt: &impl Print, key: &[u8], s: Session, ring: &mut [u8], fram: &mut [u8]) -> Session {
+fn hear_repeats(
+    rt: &impl Print,
+    key: &[u8],
+    s: Session,
+    ring: &mut [u8],
+    fram: &mut [u8],
+) -> Session {
     let s = do_save_hearing(rt, key, s, 7, 3, 5, STORES + 1, ring, fram);
     let s = do_power_up(rt, key, s, 6, STORES, ring, fram);
     do_save_hearing(rt, key, s, 7, 4, 7, STORES + 1, ring, fram)
 }
 
 // Packet 6 does not either, and 7 stays stored: packet 8 is newer.
-fn hear_newer(rt: &impl Print, key: &[u8], s: Session, ring: &mut [u8], fram: &mut [u8]) -> Session {
+fn hear_newer(
+    rt: &impl Print,
+    key: &[u8],
+    s: Session,
+    ring: &mut [u8],
+    fram: &mut [u8],
+) -> Session {
     let s = do_save_hearing(rt, key, s, 6, 5, 8, STORES, ring, fram);
     let s = do_save_hearing(rt, key, s, 7, 6, 9, STORES + 1, ring, fram);
     do_save_hearing(rt, key, s, 8, 7, 10, STORES, ring, fram)

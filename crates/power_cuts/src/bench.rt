@@ -29,7 +29,13 @@ fn save_times(first: Unit, saves: usize, ring: &mut [u8], fram: &mut [u8]) -> Un
     unit
 }
 
-fn begin_power_up(rt: &impl Print, unit: Unit, ring: &[u8], fram: &[u8], staging: &mut [u8]) -> Unit {
+fn begin_power_up(
+    rt: &impl Print,
+    unit: Unit,
+    ring: &[u8],
+    fram: &[u8],
+    staging: &mut [u8],
+) -> Unit {
     print(rt, b"power-up    ");
     let mut state = [0u8; PART_LIMIT];
     unit.begin_power_up(ring, fram, staging, &mut state)
@@ -43,7 +49,14 @@ fn begin_save(rt: &impl Print, unit: Unit, ring: &[u8], fram: &[u8], staging: &m
 }
 
 // Begins the call that is to be cut, and writes which.
-fn begin(rt: &impl Print, unit: Unit, resumes: bool, ring: &[u8], fram: &[u8], staging: &mut [u8]) -> Unit {
+fn begin(
+    rt: &impl Print,
+    unit: Unit,
+    resumes: bool,
+    ring: &[u8],
+    fram: &[u8],
+    staging: &mut [u8],
+) -> Unit {
     if resumes {
         return begin_power_up(rt, unit, ring, fram, staging);
     }
@@ -51,13 +64,27 @@ fn begin(rt: &impl Print, unit: Unit, resumes: bool, ring: &[u8], fram: &[u8], s
 }
 
 // The call that is to be cut, with its stores before the cut.
-fn begin_and_run(rt: &impl Print, unit: Unit, c: Cut, ring: &mut [u8], fram: &mut [u8], staging: &mut [u8]) -> Unit {
+fn begin_and_run(
+    rt: &impl Print,
+    unit: Unit,
+    c: Cut,
+    ring: &mut [u8],
+    fram: &mut [u8],
+    staging: &mut [u8],
+) -> Unit {
     let begun = begin(rt, unit, c.resumes, ring, fram, staging);
     begun.run(c.stores, ring, fram, staging)
 }
 
 // Runs the unit up to a cut.
-fn run_to(rt: &impl Print, first: Unit, c: Cut, ring: &mut [u8], fram: &mut [u8], staging: &mut [u8]) -> Unit {
+fn run_to(
+    rt: &impl Print,
+    first: Unit,
+    c: Cut,
+    ring: &mut [u8],
+    fram: &mut [u8],
+    staging: &mut [u8],
+) -> Unit {
     let unit = save_times(first, c.saves, ring, fram);
     begin_and_run(rt, unit, c, ring, fram, staging)
 }
@@ -132,7 +159,10 @@ fn alerted(
     staging: &mut [u8],
     state: &mut [u8],
 ) -> Unit {
-    print(rt, b"     with the nonce of the newest record                                        ");
+    print(
+        rt,
+        b"     with the nonce of the newest record                                        ",
+    );
     let unit = first.try_used_nonce(ring, fram, staging, state);
     print_stopped(rt, unit);
     print(rt, b"     a new unit, its ring blank\n");
@@ -141,7 +171,14 @@ fn alerted(
 }
 
 // A power-up that stopped.
-fn stopped(rt: &impl Print, unit: Unit, ring: &mut [u8], fram: &[u8], staging: &mut [u8], state: &mut [u8]) -> Unit {
+fn stopped(
+    rt: &impl Print,
+    unit: Unit,
+    ring: &mut [u8],
+    fram: &[u8],
+    staging: &mut [u8],
+    state: &mut [u8],
+) -> Unit {
     print_stopped(rt, unit);
     if unit.stop == 6 {
         return unit;
@@ -162,7 +199,14 @@ fn power_up(rt: &impl Print, unit: Unit, ring: &mut [u8], fram: &mut [u8]) -> Un
 }
 
 // What follows cut k: the power-up, unless the next cut falls into that. The images are those that the last cut left.
-fn resume<R: Console + Files>(rt: &R, unit: Unit, k: usize, last: usize, ring: &mut [u8], fram: &mut [u8]) -> Unit {
+fn resume<R: Console + Files>(
+    rt: &R,
+    unit: Unit,
+    k: usize,
+    last: usize,
+    ring: &mut [u8],
+    fram: &mut [u8],
+) -> Unit {
     print_ring(rt, ring);
     write_images_if(rt, k == last, ring, fram);
     if cut_again(k) {
@@ -172,7 +216,14 @@ fn resume<R: Console + Files>(rt: &R, unit: Unit, k: usize, last: usize, ring: &
     power_up(rt, unit, ring, fram)
 }
 
-fn cut_once<R: Console + Files>(rt: &R, first: Unit, k: usize, last: usize, ring: &mut [u8], fram: &mut [u8]) -> Unit {
+fn cut_once<R: Console + Files>(
+    rt: &R,
+    first: Unit,
+    k: usize,
+    last: usize,
+    ring: &mut [u8],
+    fram: &mut [u8],
+) -> Unit {
     let unit = cut_unit(rt, first.ready(), k, ring, fram);
     resume(rt, unit, k, last, ring, fram)
 }

@@ -84,9 +84,12 @@ impl Tally {
         print_count(rt, b"\nrestarts at the most ", self.most);
         print_count(rt, b", pages erased ", self.erased);
         print(rt, b"\n");
-        if self.print_differing() {
+        if self.print_differing(rt) {
             return;
         }
-        print(rt, b"every power-up resumed the checkpoint recorded last, or stopped as it must\n");
+        print(
+            rt,
+            b"every power-up resumed the checkpoint recorded last, or stopped as it must\n",
+        );
     }
 }
