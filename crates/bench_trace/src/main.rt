@@ -68,7 +68,14 @@ fn run(zeros: usize, trace: &[u8], ring: &mut [u8], fram: &mut [u8], text: &mut 
 }
 
 // Runs a trace under the key of so many zero bytes in these buffers, and prints what is to be printed.
-fn print(rt: &impl Print, zeros: usize, trace: &[u8], ring: &mut [u8], fram: &mut [u8], text: &mut [u8])
+fn print(
+    rt: &impl Print,
+    zeros: usize,
+    trace: &[u8],
+    ring: &mut [u8],
+    fram: &mut [u8],
+    text: &mut [u8],
+)
     requires { (zeros ≤ long_key) × (length ring.old ≡ ring_length) × (length fram.old ≡ fram_length) × (text_length ≤ length text.old) }
 {
     let n = run(zeros, trace, ring, fram, text);
