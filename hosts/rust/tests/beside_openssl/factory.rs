@@ -705,12 +705,15 @@ fn the_programs_other_files() {
     assert_eq!(run("/dev/stdin", &unit.ring), "accepted\n");
     assert_eq!(run("/dev/stdin", &unit.ring[1..]), "refused 1\n");
     assert_eq!(run("/dev/null", &[]), "refused 1\n");
-    // A name of bytes that are no text.
+    // A name of bytes that are no text: the library opens none, so the file counts as one that cannot be read.
     let odd = folder.join(OsStr::from_bytes(b"ring \xFF\n"));
     fs::write(&odd, &unit.ring).unwrap();
     let ran =
         Command::new(program("factory_view")).args(["3", "2"]).arg(&odd).args([path("fram"), path("key")]).output();
-    assert_eq!(ran.unwrap().stdout, b"accepted\n");
+    let ran = ran.unwrap();
+    assert_eq!(ran.stdout, b"");
+    let why = &b": Invalid or incomplete multibyte or wide character\n"[..];
+    assert_eq!(ran.stderr, [b"ring: ", odd.as_os_str().as_bytes(), why].concat());
 }
 
 /// The files that the gate runs the program on.
