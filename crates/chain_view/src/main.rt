@@ -34,7 +34,13 @@ fn write_lines(rt: &impl Console, numbers: &[u8]) {
 fn run(rt: &impl Console, entries: &mut [u8], positions: &mut [u8])
     requires { (length entries.old ≤ entry_length * entries_limit + 1) × (length positions.old ≡ entries_limit) }
 {
-    let loaded = read_open(rt, &mut rt.reader(), b"entries: ", b"standard input", entries);
+    let loaded = read_open(
+        rt,
+        &mut rt.reader(),
+        b"entries: ",
+        b"standard input",
+        entries,
+    );
     if !loaded.is_read {
         return;
     }

@@ -6,8 +6,8 @@
 ghost use Rattle.std.specs.Prelude.{◌≡◌, ◌≤◌, length, take};
 
 use bench_io::{
-    Console, Loaded, answer_refused, argument_count, not_read, number_argument, open_read, read_open,
-    write_out,
+    Console, Loaded, answer_refused, argument_count, not_read, number_argument, open_read,
+    read_open, write_out,
 };
 use factory::factory_check;
 use octets::limits::{FRAM_LIMIT, LONG_KEY, PAGES_LIMIT, SLOT_LENGTH, SLOTS_LIMIT};
@@ -33,7 +33,12 @@ fn load<R: Console + Files>(rt: &R, i: usize, what: &[u8], buffer: &mut [u8]) ->
 {
     let mut path = [0u8; NAME_LIMIT];
     let Ok(n) = rt.arg(i, &mut path) else {
-        return not_read(rt, what, b"name", io::Error::from_raw_os_error(NAME_TOO_LONG));
+        return not_read(
+            rt,
+            what,
+            b"name",
+            io::Error::from_raw_os_error(NAME_TOO_LONG),
+        );
     };
     match open_read(rt, &path[..n]) {
         Ok(mut file) => read_open(rt, &mut file, what, &path[..n], buffer),
@@ -74,13 +79,16 @@ fn run<R: Console + Files>(rt: &R, ring: &mut [u8], fram: &mut [u8], key: &mut [
     let r_length = r.length;
     let f_length = f.length;
     let k_length = k.length;
-    say(rt, factory_check(
-        pages.value,
-        slots.value,
-        &ring[..r_length],
-        &fram[..f_length],
-        &key[..k_length],
-    ));
+    say(
+        rt,
+        factory_check(
+            pages.value,
+            slots.value,
+            &ring[..r_length],
+            &fram[..f_length],
+            &key[..k_length],
+        ),
+    );
 }
 
 fn main(rt: HostRuntime) {

@@ -53,7 +53,13 @@ fn show(rt: &impl Console, list: &[u8]) {
 
 fn main(rt: HostRuntime) {
     let mut list = [0u8; ROOM];
-    let loaded = read_open(&rt, &mut rt.reader(), b"list: ", b"standard input", &mut list);
+    let loaded = read_open(
+        &rt,
+        &mut rt.reader(),
+        b"list: ",
+        b"standard input",
+        &mut list,
+    );
     if !loaded.is_read {
         return;
     }
