@@ -12,6 +12,7 @@ use Rattle.octets.proofs.Laws.{same_equal, equal_same, unequal_same}
 use Rattle.octets.proofs.Tables.{length_table, get_or_table, is_table}
 use Rattle.chain.specs.Chain.{count, tag_at, previous, own, nth, ChainOrder, entry_with, owner, follower, own_twice, first_entry, place, ends_early, order}
 use Rattle.octets.proofs.Search.{Found, found, none_below, some_ends, ends, only_one}
+use Rattle.chain.proofs.OwnTest.{own_test}
 use Rattle.chain.proofs.Pigeons.{Stands, each_stands}
 
 -- ---- an entry with a tag
@@ -49,10 +50,6 @@ module _ (E : List ℕ) (offset : ℕ) (tag : List ℕ) where
   one_with k h e u = only_one (count E) tag_test k h (equal_same _ tag e) (λ j l t. u j l (same_equal _ tag t))
 
 -- ---- what the other searches test
-
--- an entry is not the first with its own tag
-abbrev pub own_test : (E : List ℕ) → ℕ → Bool
-own_test E i = not (eqb (owner E (own E i)) i)
 
 -- its previous tag is none's own
 abbrev pub first_test : (E : List ℕ) → ℕ → Bool

@@ -1,17 +1,18 @@
 -- Laws of a list's words: where a kind stands, and what is known of kinds that rise. Assumes nothing.
 use Prim.Native.Nat.{ℕ, zero, suc, ◌+◌, ◌-◌, ◌%◌, ◌≤◌, ◌<◌}
 use mathlib.Core.Path.{◌≡◌, refl, sym, ap, subst, ◌∙◌}
-use mathlib.Core.Bool.{Bool, true, false, cond, not, ◌&&◌, ◌||◌, true≢false}
+use mathlib.Core.Bool.{Bool, true, false, cond, not, ◌||◌, true≢false}
 use mathlib.Core.List.{List}
 use mathlib.Core.Logic.{◌⊎◌, inl, inr}
 use native.Mathlib.Decide.{ℕ_discrete}
 use native.Mathlib.Omega.{arith}
 use lib.ListN.{length}
-use lib.Dec.{eqb, leb, ltb}
+use lib.Dec.{eqb, ltb}
 use borrow.Author.Tests.{eqb-true, eqb-false, eq-eqb, ne_eqb, ltb-false, lt-ltb, leb-false, not-false}
 use Rattle.octets.specs.Search.{some_below}
 use Rattle.octets.proofs.Search.{NoneBefore, found, none_below, only_one}
 use Rattle.stops.proofs.Laws.{neither}
+use Rattle.settings.proofs.KindLaws.{and_false, right}
 use Rattle.settings.specs.Rules.{FirstRight}
 use Rattle.settings.specs.Settings.{count, kind_at, place, missing, version, last_kind, list_wrong, kind_wrong, kinds_wrong}
 
@@ -77,31 +78,14 @@ pub record Rises (L : List ℕ) : Type 0 where
   pub high : (i : ℕ) → 1 ≤ i → i < count L → kind_at L i ≤ last_kind (version L)
   pub rise : (i : ℕ) → 1 ≤ i → i + 1 < count L → kind_at L i < kind_at L (i + 1)
 
-and_false : (a b : Bool) → a ≡ true → a && b ≡ false → b ≡ false
-and_false true b h e = e
-and_false false b h e = absurd (true≢false (sym h))
-
 -- what is known of the kind of a word behind the first
 module _ (L : List ℕ) (i : ℕ) (h : 1 ≤ i) (w : kind_wrong L i ≡ false) where
-  right : (eqb (kind_at L i) 0 ≡ false) × (ltb (last_kind (version L)) (kind_at L i) ≡ false) × (ltb 1 i && leb (kind_at L i) (kind_at L (i - 1)) ≡ false)
-  unfolding kind_wrong
-  right =
-      let b = neither _ _ (and_false (ltb 0 i) _ (lt-ltb 0 i h) w) in
-      let a = neither _ _ b.0 in
-      (a.0, a.1, b.1)
-
   right_rise : 2 ≤ i → kind_at L (i - 1) < kind_at L i
-  right_rise h₂ = leb-false (kind_at L i) (kind_at L (i - 1)) (and_false (ltb 1 i) _ (lt-ltb 1 i h₂) right.2)
+  right_rise h₂ = leb-false (kind_at L i) (kind_at L (i - 1)) (and_false (ltb 1 i) _ (lt-ltb 1 i h₂) (right L i h w).2)
 
 pub none_first : (L : List ℕ) → kind_wrong L 0 ≡ false
 unfolding kind_wrong
 none_first L = refl
-
--- of a word behind the first the code tests this
-pub kind_tested : (L : List ℕ) (i : ℕ) → 1 ≤ i
-    → eqb (kind_at L i) 0 || ltb (last_kind (version L)) (kind_at L i) || (ltb 1 i && leb (kind_at L i) (kind_at L (i - 1))) ≡ kind_wrong L i
-unfolding kind_wrong
-kind_tested L i h = rw (lt-ltb 0 i h)
 
 pub rises : (L : List ℕ) → some_below (count L) (kind_wrong L) ≡ false → Rises L
 rises L e = record {

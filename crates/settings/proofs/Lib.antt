@@ -1,4 +1,6 @@
 -- Laws of settings.
+pub mod KindLaws
 pub mod Laws
 pub mod CallLaws
+pub mod OlderReader
 pub mod Theorems

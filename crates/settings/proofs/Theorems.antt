@@ -20,9 +20,10 @@ use Rattle.octets.proofs.Numbers.{number_ext, number_bytes, length_bytes}
 use Rattle.octets.proofs.Search.{NoneBefore, same_search, some_ends}
 use Rattle.stops.proofs.Laws.{neither}
 use Rattle.settings.specs.Settings.{count, kind_at, value_at, place, missing, setting, version, volume, delay, list_wrong, last_kind, kind_wrong, kinds_wrong, value_wrong, values_wrong, list_stop, Volume_delay, read_stop, read_by, settings_read, write_stop, changed, written_by, settings_write}
-use Rattle.settings.specs.Rules.{FirstRight, IsSetting, Once, KindsRight, InRange, its_volume, its_delay, ValuesRight, ReadExactly, Known, meeting, through, older_by, older_read, OlderReads, WriteExactly, Keeps, WriteKeeps}
-use Rattle.settings.proofs.Laws.{Rises, Front, Kinds, kind_test, first_right, kinds, above, only, placed, not_missing, there}
-use Rattle.settings.proofs.CallLaws.{Passed, passed, passes_all, stops_23, stops_24, stops_25, volume_range, delay_range, value_small, values_in_front, stopped, Writes, writes}
+use Rattle.settings.specs.Rules.{FirstRight, IsSetting, Once, KindsRight, InRange, its_volume, its_delay, ValuesRight, ReadExactly, OlderReads, WriteExactly, Keeps, WriteKeeps}
+use Rattle.settings.proofs.Laws.{Kinds, kind_test, first_right, kinds, above, only, placed, not_missing, there}
+use Rattle.settings.proofs.CallLaws.{passed, passes_all, stops_23, stops_24, stops_25, volume_range, delay_range, value_small, stopped, Writes, writes}
+use Rattle.settings.proofs.OlderReader.{older}
 
 -- a test that cannot fail
 unless_false : (b : Bool) → (b ≡ false → ⊥) → b ≡ true
@@ -172,38 +173,6 @@ read_exactly L = record {
 }
 
 -- ---- a reader that knows version 1 alone
-
--- kinds above 2 are passed over
-passed_over : (L : List ℕ) (n i : ℕ) (s : Known) → ((j : ℕ) → i ≤ j → j < i + n → 3 ≤ kind_at L j) → through L n i s ≡ s
-unfolding through meeting
-passed_over L zero i s h = refl
-passed_over L (suc n) i s h =
-    let k : 3 ≤ kind_at L i = h i (omega arith) (omega arith) in
-    rw (ne_eqb (kind_at L i) 1 (λ e. omega (arith, k, e)), ne_eqb (kind_at L i) 2 (λ e. omega (arith, k, e))) (passed_over L n (suc i) s (λ j a b. h j (omega arith) (omega arith)))
-
-module _ (L : List ℕ) (r : Rises L) (f : Front L) where
-  none_met : Known
-  none_met = record { volume = none; delay = none }
-
-  both_met : Known
-  both_met = record { volume = some (value_at L 1); delay = some (value_at L 2) }
-
-  met_front : (n : ℕ) → through L (suc (suc n)) 1 none_met ≡ through L n 3 both_met
-  unfolding through meeting none_met both_met
-  met_front n = rw (eq-eqb (kind_at L 1) 1 f.volume, ne_eqb (kind_at L 2) 1 (λ x. omega (arith, f.delay, x)), eq-eqb (kind_at L 2) 2 f.delay)
-
-  met : through L (count L - 1) 1 none_met ≡ both_met
-  met =
-      let e : count L - 1 ≡ suc (suc (count L - 3)) = omega (arith, f.long) in
-      ap (λ (n : ℕ). through L n 1 none_met) e ∙ met_front (count L - 3)
-      ∙ passed_over L (count L - 3) 3 both_met (λ j a b. omega (arith, above L r 2 j (omega arith) (omega arith) (omega (arith, b, f.long)), f.delay))
-
-older : (L : List ℕ) → Passed L false false → older_read L ≡ Volume_delay (value_at L 1) (value_at L 2)
-unfolding older_read older_by none_met both_met
-older L p =
-    let f = p.is_right in
-    let k = p.has_kinds in
-    rw (eq-eqb (length L % 4) 0 (omega (arith, f.whole)), ne_eqb (count L) 0 (λ e. omega (arith, f.there, e)), eq-eqb (kind_at L 0) 15 f.kind, met L k.rising k.in_front, values_in_front L f k, p.values_right)
 
 pub older_reads : (L : List ℕ) → FirstRight L → (k : KindsRight L) → ValuesRight L k → OlderReads L k
 older_reads L f k v =

@@ -8,7 +8,7 @@ use borrow.Author.Tests.{eq-eqb, ne_eqb}
 use Rattle.octets.specs.Limits.{tag_length}
 use Rattle.chain.specs.Chain.{count, own, entry_with, owner, own_twice}
 use Rattle.octets.proofs.Search.{none_yet, none_more, some_stops, some_ends}
-use Rattle.chain.proofs.Orders.{own_test}
+use Rattle.chain.proofs.OwnTest.{own_test}
 use Rattle.chain.proofs.own_twice.Goals as goal
 
 -- the first entry with the own tag of entry i

@@ -3,7 +3,7 @@ use Prim.Native.Nat.{◌-◌, ◌≤◌}
 use mathlib.Core.Path.{◌≡◌}
 use Rattle.chain.specs.Chain.{count}
 use Rattle.octets.proofs.Search.{NoneBefore}
-use Rattle.chain.proofs.Orders.{own_test}
+use Rattle.chain.proofs.OwnTest.{own_test}
 use Rattle.chain.proofs.own_twice.Given as goal
 
 abbrev pub invariant-loop-i : goal.invariant-loop-i

@@ -4,7 +4,7 @@ use mathlib.Core.Bool.{◌&&◌, ◌||◌}
 use lib.Dec.{eqb, leb, ltb}
 use borrow.Author.Rules.{rules}
 use Rattle.settings.specs.Settings.{last_kind}
-use Rattle.settings.proofs.Laws.{kind_tested}
+use Rattle.settings.proofs.KindLaws.{kind_tested}
 use Rattle.settings.proofs.kind_wrong.Goals as goal
 
 pub returns : goal.returns
