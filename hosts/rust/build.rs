@@ -35,9 +35,12 @@ fn made_here() -> PathBuf {
     println!("cargo:rerun-if-changed={}", list.display());
     let mut newest = changed(&list);
     for name in needed(&fs::read_to_string(&list).unwrap_or_default()) {
-        let folder = root.join("crates").join(name);
-        println!("cargo:rerun-if-changed={}", folder.display());
-        newest = newest.max(changed(&folder));
+        // beside these a crate has the folder out/, which rt makes
+        for part in ["src", "specs", "proofs"] {
+            let folder = root.join("crates").join(name).join(part);
+            println!("cargo:rerun-if-changed={}", folder.display());
+            newest = newest.max(changed(&folder));
+        }
     }
     if changed(&archive) <= newest {
         make(&root);
@@ -46,7 +49,7 @@ fn made_here() -> PathBuf {
 }
 
 fn make(root: &Path) {
-    match Command::new("hosts/build").arg("keeper_c").current_dir(root).output() {
+    match Command::new(root.join("hosts/build")).arg("keeper_c").current_dir(root).output() {
         Err(why) => fail(&format!("hosts/build: {why}")),
         Ok(ran) if !ran.status.success() => fail(&format!(
             "hosts/build keeper_c failed\n{}{}",
@@ -57,13 +60,13 @@ fn make(root: &Path) {
     }
 }
 
-/// `keeper_c` and every crate of the repository that it needs, by the lines `NAME: DEP DEP ..` of `crates.txt`.
+/// `keeper_c` and every crate of the repository that it needs, by the lines `NAME: DEP DEP ..` of `crates.txt`, with `staticlib` behind the name of a static library.
 fn needed(list: &str) -> BTreeSet<&str> {
     let lines: Vec<(&str, &str)> = list.lines().filter_map(|line| line.split('#').next()?.split_once(':')).collect();
     let mut names = BTreeSet::new();
     let mut more = vec!["keeper_c"];
     while let Some(name) = more.pop() {
-        if let Some((_, needs)) = lines.iter().find(|(listed, _)| listed.trim() == name) {
+        if let Some((_, needs)) = lines.iter().find(|(listed, _)| listed.split_whitespace().next() == Some(name)) {
             if names.insert(name) {
                 more.extend(needs.split_whitespace());
             }

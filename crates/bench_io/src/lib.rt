@@ -21,14 +21,19 @@ const NO_TEXT: i32 = 84;
 // What a program of the bench is run with: its arguments, standard input, standard output and standard error, which takes bytes that are
 // no text too, such as a file's name.
 pub trait Console: Env + Input + Print + Eprint {
-    // Writes a line of words, or a part of one, to standard error.
-    fn complain(&self, line: &[u8]);
+    // Writes bytes to standard error.
+    fn write_error(&self, bytes: &[u8]);
 }
 
 impl Console for HostRuntime {
-    fn complain(&self, line: &[u8]) {
-        let _ = self.stderr().write_all(line);
+    fn write_error(&self, bytes: &[u8]) {
+        let _ = self.stderr().write_all(bytes);
     }
+}
+
+// Writes a line of words, or a part of one, to standard error.
+pub fn complain(rt: &impl Console, line: &[u8]) {
+    rt.write_error(line);
 }
 
 // Whether an argument is a decimal number, and the number, or one more than the most that was asked for if it is larger.
@@ -103,7 +108,7 @@ pub fn refuse(rt: &impl Eprint, stop: Stop) {
 
 // Says that standard output took not all.
 pub fn not_written(rt: &impl Console) {
-    rt.complain(b"standard output could not be written whole\n");
+    complain(rt, b"standard output could not be written whole\n");
 }
 
 // Writes bytes to standard output, or complains.
@@ -143,15 +148,15 @@ fn complain_why(rt: &impl Console, error: io::Error) {
     let _ = write!(room, "{error}");
     let n = 256usize.saturating_sub(room.len());
     if let Ok(words) = str::from_utf8(&text[..n]) {
-        rt.complain(without_number(words).as_bytes());
+        complain(rt, without_number(words).as_bytes());
     }
-    rt.complain(b"\n");
+    complain(rt, b"\n");
 }
 
 // Says why a file was not opened or read.
 pub fn fail(rt: &impl Console, path: &[u8], error: io::Error) {
-    rt.complain(path);
-    rt.complain(b": ");
+    complain(rt, path);
+    complain(rt, b": ");
     complain_why(rt, error);
 }
 
@@ -159,7 +164,7 @@ pub fn fail(rt: &impl Console, path: &[u8], error: io::Error) {
 pub fn not_read(rt: &impl Console, what: &[u8], path: &[u8], error: io::Error) -> Loaded
     ensures { result.length ≡ 0 }
 {
-    rt.complain(what);
+    complain(rt, what);
     fail(rt, path, error);
     Loaded {
         is_read: false,

@@ -8,7 +8,7 @@ ghost use Rattle.octets.specs.Octets.{put};
 ghost use Rattle.trace.specs.Trace.{ring_length, fram_length, text_length, output};
 ghost use Rattle.bench_trace.specs.Argument.{length_named};
 
-use bench_io::{Console, argument_count, read_full};
+use bench_io::{Console, argument_count, complain, read_full};
 use octets::limits::{LONG_KEY, SHORT_KEY};
 use octets::{copy, same};
 use ring_line::refused_line;
@@ -85,7 +85,8 @@ fn print(
 fn main(rt: HostRuntime) {
     let zeros = key_length(&rt);
     if zeros == 0 {
-        rt.complain(
+        complain(
+            &rt,
             b"usage: bench_trace [LENGTH], the key's length in bytes, 16 or 32; 32 if none is given\n",
         );
         return;

@@ -101,7 +101,7 @@ pub data Value : Type 0 where
 abbrev read : List ℕ → Value
 read r = reads (read_ring r 3 2)
 
--- where the next record goes, as read-ring finds it
+-- where the next record goes, as read_ring finds it
 abbrev next : List ℕ → Value
 next r = target (target_page 3 2 (read_ring r 3 2)) (target_slot 2 (read_ring r 3 2))
 

@@ -6,8 +6,8 @@
 ghost use Rattle.std.specs.Prelude.{◌≡◌, ◌≤◌, length, take};
 
 use bench_io::{
-    Console, Loaded, answer_refused, argument_count, not_read, number_argument, open_read,
-    read_open, write_out,
+    Console, Loaded, answer_refused, argument_count, complain, not_read, number_argument,
+    open_read, read_open, write_out,
 };
 use factory::factory_check;
 use octets::limits::{FRAM_LIMIT, LONG_KEY, PAGES_LIMIT, SLOT_LENGTH, SLOTS_LIMIT};
@@ -59,7 +59,8 @@ fn run<R: Console + Files>(rt: &R, ring: &mut [u8], fram: &mut [u8], key: &mut [
     let pages = number_argument(rt, 1, PAGES_LIMIT);
     let slots = number_argument(rt, 2, SLOTS_LIMIT);
     if !pages.is_number | !slots.is_number | (argument_count(rt) != 6) {
-        rt.complain(
+        complain(
+            rt,
             b"usage: factory_view PAGES SLOTS RING FRAM KEY, the last three being names of files\n",
         );
         return;

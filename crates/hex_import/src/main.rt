@@ -6,7 +6,7 @@
 ghost use Rattle.std.specs.Prelude.{◌≡◌, ◌+◌, length};
 ghost use Rattle.octets.specs.Limits.{image_limit};
 
-use bench_io::{Console, argument_count, number_argument, read_full, refuse, write_out};
+use bench_io::{Console, argument_count, complain, number_argument, read_full, refuse, write_out};
 use intel_hex::import_image;
 use octets::limits::IMAGE_LIMIT;
 use stops::Check;
@@ -29,12 +29,12 @@ fn run(rt: &impl Console, text: &mut [u8], image: &mut [u8])
 {
     let size = number_argument(rt, 1, IMAGE_LIMIT);
     if !size.is_number | (argument_count(rt) != 2) {
-        rt.complain(b"usage: hex_import SIZE, the image's length in bytes\n");
+        complain(rt, b"usage: hex_import SIZE, the image's length in bytes\n");
         return;
     }
     let n = read_full(&mut rt.reader(), text);
     if n > TEXT_LIMIT {
-        rt.complain(b"the text is longer than 4,194,304 bytes\n");
+        complain(rt, b"the text is longer than 4,194,304 bytes\n");
         return;
     }
     let bytes = size.value;

@@ -31,18 +31,18 @@ abbrev pub sealing_left : ℕ → List ℕ → List ℕ → Sealing
 sealing_left r out tag = record { answer = r; out = out; tag = tag }
 
 unfoldable pub sealing_stop : (key nonce aad text out tag : List ℕ) → Option ℕ
-sealing_stop key nonce aad text out tag-buffer = first_of (
-    (3, key_wrong key_lengths (length key) || nonce_wrong (length nonce) || tag_wrong (length tag-buffer)) ∷
+sealing_stop key nonce aad text out tag_buffer = first_of (
+    (3, key_wrong key_lengths (length key) || nonce_wrong (length nonce) || tag_wrong (length tag_buffer)) ∷
     (4, buffers_wrong (length aad) (length text) (length out)) ∷ [])
 
 unfoldable pub sealing_by : Option ℕ → (key nonce aad text out tag : List ℕ) → Sealing
-sealing_by (some n) key nonce aad text out tag-buffer = sealing_left n out tag-buffer
-sealing_by none key nonce aad text out tag-buffer =
+sealing_by (some n) key nonce aad text out tag_buffer = sealing_left n out tag_buffer
+sealing_by none key nonce aad text out tag_buffer =
     let cipher = encrypted key nonce text in
     sealing_left 0 (put out 0 cipher) (tag key nonce aad cipher)
 
 unfoldable pub sealing_call : (key nonce aad text out tag : List ℕ) → Sealing
-sealing_call key nonce aad text out tag-buffer = sealing_by (sealing_stop key nonce aad text out tag-buffer) key nonce aad text out tag-buffer
+sealing_call key nonce aad text out tag_buffer = sealing_by (sealing_stop key nonce aad text out tag_buffer) key nonce aad text out tag_buffer
 
 -- ---- starts: the job goes to a buffer
 

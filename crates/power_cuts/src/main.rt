@@ -10,7 +10,7 @@ mod tally;
 mod unit;
 
 use bench::cut_all;
-use bench_io::Console;
+use bench_io::{Console, complain};
 use images::last_cut;
 use print::print;
 
@@ -40,7 +40,8 @@ fn print_heading(rt: &impl Print) {
 fn main(rt: HostRuntime) {
     let last = last_cut(&rt);
     if last == 0 {
-        rt.complain(
+        complain(
+            &rt,
             b"usage: power_cuts [RING FRAM [CUT]], two files to write and a number from 1 to 40\n",
         );
         return;

@@ -6,7 +6,7 @@
 ghost use Rattle.std.specs.Prelude.{◌≡◌, ◌+◌, ◌*◌, ◌≤◌, length};
 ghost use Rattle.octets.specs.Limits.{slot_length, shape_pages_limit, shape_slots_limit};
 
-use bench_io::{Console, argument_count, number_argument, refuse, write_out};
+use bench_io::{Console, argument_count, complain, number_argument, refuse, write_out};
 use octets::limits::{PAGES_LEAST, SHAPE_PAGES_LIMIT, SHAPE_SLOTS_LIMIT, SLOT_LENGTH, SLOTS_LEAST};
 use ring_line::ring_line;
 use ring_shapes::ring_shape;
@@ -101,7 +101,10 @@ fn write_ring(rt: &impl Console, pages: usize, slots: usize, number: usize, ring
 }
 
 fn usage(rt: &impl Console) {
-    rt.complain(b"usage: ring_shapes_view [PAGES SLOTS [NUMBER]]; 3 by 2 if no size is given\n");
+    complain(
+        rt,
+        b"usage: ring_shapes_view [PAGES SLOTS [NUMBER]]; 3 by 2 if no size is given\n",
+    );
 }
 
 // The whole run, in a buffer for the ring.

@@ -3,7 +3,7 @@
 // standard input cannot be read or is longer than any open part, standard error says so. The exit status does not tell.
 #![tactic(auto)]
 
-use bench_io::{Console, answer_refused, not_written, read_open};
+use bench_io::{Console, answer_refused, complain, not_written, read_open};
 use octets::limits::PART_LIMIT;
 use settings::{ALERT_DELAY, LIST_VERSION, Settings, VOLUME, kind_at, settings_read, value_at};
 
@@ -65,7 +65,7 @@ fn main(rt: HostRuntime) {
     }
     let length = loaded.length;
     if length > PART_LIMIT {
-        rt.complain(b"list: standard input is longer than an open part\n");
+        complain(&rt, b"list: standard input is longer than an open part\n");
         return;
     }
     show(&rt, &list[..length]);
