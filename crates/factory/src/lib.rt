@@ -46,7 +46,11 @@ fn check_named(found: Newest, record: &[u8], fram: &[u8], key: &[u8]) -> Check
     let half = half_at(fram, number);
     let head = read_head(half);
     let check = check_half(key, part(record, 0, NONCE_LENGTH), half, head);
-    check.stop_if(not_first(found, number, head), Stop::NotFirstSave)
+    // what 19 asks is no secret, so the branch is on it, and the compiled code needs no jump on the tag (hosts/constant_time)
+    if not_first(found, number, head) {
+        return check.stop_if(true, Stop::NotFirstSave);
+    }
+    check
 }
 
 // Passes exactly if some first save, run to its end, leaves this ring and, in its checkpoint's length of half A, these bytes. Else it stops with

@@ -1,5 +1,7 @@
 -- `factory::check_named` meets its contract. Assumes nothing.
-use mathlib.Core.Path.{◌≡◌, ap, ◌∙◌}
+use mathlib.Core.Path.{◌≡◌, refl, ap, ◌∙◌}
+use mathlib.Core.Bool.{false}
+use mathlib.Core.Option.{Option, none, some}
 use mathlib.Core.List.{List}
 use Prim.Native.Nat.{ℕ}
 use native.Mathlib.Omega.{arith}
@@ -28,6 +30,23 @@ read_head-head-requires c =
     let z = an_image fram_limit c.args.fram.now c.requires.0 in
     omega (arith, c.half_at-half.ensures.1)
 
+-- a condition that does not apply stops nothing
+none_more : (o : Option ℕ) (n : ℕ) → o ≡ then_stop o n false
+none_more none n = refl
+none_more (some s) n = refl
+
+pub returns-then-not_first : goal.returns-then-not_first
+returns-then-not_first c =
+    let half_check : let a = c.args in check_number c.check_half-check.result ≡ first_of (look_half a.key.now a.«record».now a.fram.now) =
+    let a = c.args in
+    half_checked a.key.now a.«record».now a.fram.now _ _ _ _ c.half_named-number.ensures c.half_at-half.ensures.0 c.part.ensures.0 c.check_half-check.ensures in
+    let a = c.args in
+    let half = c.half_at-half in
+    let head = c.read_head-head.ensures in
+    let wrong = c.if-not_first.ensures (form_of half.result.now) head.1
+    ∙ first_check (newest a.found) a.«record».now a.fram.now _ _ _ c.half_named-number.ensures half.ensures.0 head.5 in
+    c.stop_if.ensures ∙ (λ i. then_stop (half_check i) 19 (wrong i))
+
 pub returns : goal.returns
 returns c =
     let half_check : let a = c.args in check_number c.check_half-check.result ≡ first_of (look_half a.key.now a.«record».now a.fram.now) =
@@ -36,6 +55,6 @@ returns c =
     let a = c.args in
     let half = c.half_at-half in
     let head = c.read_head-head.ensures in
-    let wrong = c.not_first.ensures (form_of half.result.now) head.1
+    let wrong = c.if-not_first.ensures (form_of half.result.now) head.1
     ∙ first_check (newest a.found) a.«record».now a.fram.now _ _ _ c.half_named-number.ensures half.ensures.0 head.5 in
-    c.stop_if.ensures ∙ (λ i. then_stop (half_check i) 19 (wrong i))
+    half_check ∙ none_more _ 19 ∙ ap (then_stop _ 19) wrong
