@@ -1,14 +1,12 @@
 -- The steps of a round as tables over the index of a byte, as the loops have them.
 -- Assumes nothing.
-use mathlib.Core.Path.{◌≡◌, refl, ap, ap₂}
+use mathlib.Core.Path.{◌≡◌, refl}
 use mathlib.Core.List.{List, ◌++◌}
-use Prim.Native.Nat.{ℕ, zero, suc, ◌+◌, ◌*◌, ◌/◌, ◌%◌, ◌-◌, ◌<◌}
+use Prim.Native.Nat.{ℕ, zero, suc, ◌+◌, ◌*◌, ◌-◌, ◌<◌}
 use native.Mathlib.Nat.{add-zero}
 use native.Mathlib.Omega.{arith}
 use lib.ListN.{get_or}
-use Rattle.octets.specs.Octets.{◌⊕◌}
 use Rattle.octets.specs.Table.{table}
-use Rattle.octets.proofs.Tables.{table_ext}
 use Rattle.sbox.specs.Field.{sub_byte}
 use Rattle.aes.specs.State.{sub_bytes, shift_rows, mix_column, mix_columns, add_round_key}
 use Rattle.aes_key.specs.Key.{word, xor_word}
@@ -22,13 +20,11 @@ sub_bytes_is s = refl
 abbrev pub mixed : List ℕ → ℕ → ℕ → ℕ → ℕ → List ℕ
 mixed s a b c d = mix_column (sub_byte (get_or s a 0)) (sub_byte (get_or s b 0)) (sub_byte (get_or s c 0)) (sub_byte (get_or s d 0))
 
-at_index : (w : List ℕ) (i j : ℕ) → i ≡ j → get_or w i 0 ≡ get_or w j 0
-at_index w i j e = ap (λ (k : ℕ). get_or w k 0) e
-
-pub add_round_key_is : (s w : List ℕ) (round : ℕ) → add_round_key s w round ≡ table 16 (λ i. get_or s i 0 ⊕ get_or w (16 * round + i) 0)
+-- a round key added, column by column
+pub add_round_key_is : (s w : List ℕ) (round : ℕ) → add_round_key s w round
+    ≡ xor_word (word s 0) (word w (4 * round)) ++ xor_word (word s 1) (word w (4 * round + 1)) ++ xor_word (word s 2) (word w (4 * round + 2)) ++ xor_word (word s 3) (word w (4 * round + 3))
 unfolding add_round_key
-add_round_key_is s w round =
-    table_ext 16 _ _ (λ i k. ap₂ ◌⊕◌ (at_index s (i % 4 + 4 * (i / 4)) i (omega arith)) (at_index w (i % 4 + 4 * (4 * round + i / 4)) (16 * round + i) (omega arith)))
+add_round_key_is s w round = rw (add-zero (4 * round))
 
 -- a whole round, column by column
 pub round_is : (s w : List ℕ) (round : ℕ) → add_round_key (mix_columns (shift_rows (sub_bytes s))) w round

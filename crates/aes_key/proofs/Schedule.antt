@@ -5,26 +5,18 @@ use mathlib.Core.Bool.{Bool, true, false, cond}
 use mathlib.Core.List.{List, ◌++◌}
 use Prim.Native.Nat.{ℕ, zero, suc, ◌+◌, ◌-◌, ◌*◌, ◌/◌, ◌<◌, ◌≤◌}
 use native.Mathlib.Nat.{div-lt_iff_lt-mul, le-div_iff_mul-le, one-mul}
-use native.Mathlib.Numerals.{add-one, add-two, add-three}
+use native.Mathlib.Numerals.{add-one}
 use native.Mathlib.Omega.{arith}
 use lib.Dec.{ltb}
-use lib.ListN.{length, get_or, set, drop, replicate, length-append, length-replicate, get_or-append}
+use lib.ListN.{length, drop, replicate, length-append, length-replicate, get_or-append}
 use lib.Seq.{sets, sets-eq, take-append_seam, drop-append-add}
 use borrow.Author.Tests.{ltb-false}
-use Rattle.octets.specs.Table.{table}
-use Rattle.octets.proofs.Tables.{is_table, table_ext}
+use Rattle.octets.proofs.Tables.{table_ext}
 use Rattle.aes_key.specs.Key.{byte, word, xor_word, temp, next_word, expanded, padded}
 
 -- the number of Rcon, between 1 and 10
 pub turn : (nk i : ℕ) → 0 < nk → nk ≤ i → i < 11 * nk → (0 < i / nk) × (i / nk ≤ 10)
 turn nk i p lo hi = ((le-div_iff_mul-le p).1 (rw one-mul lo), omega (arith, (div-lt_iff_lt-mul p).1 hi))
-
--- four stores, one after the other
-pub put_word : (w u : List ℕ) (p : ℕ) → length u ≡ 4
-    → set (set (set (set w p (get_or u 0 0)) (p + 1) (get_or u 1 0)) (p + 2) (get_or u 2 0)) (p + 3) (get_or u 3 0) ≡ sets w p u
-put_word w u p e =
-    let four : u ≡ table 4 (λ r. get_or u r 0) = is_table 4 _ u e (λ i k. refl) in
-    rw (four, add-one, add-two, add-three)
 
 zeros : (i j : ℕ) → i ≡ j → replicate {A = ℕ} i 0 ≡ replicate j 0
 zeros i j e = ap (λ (k : ℕ). replicate k 0) e

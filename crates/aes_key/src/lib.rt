@@ -7,6 +7,7 @@ ghost use Rattle.octets.specs.Table.{table};
 ghost use Rattle.sbox.specs.Field.{sub_byte};
 ghost use Rattle.aes_key.specs.Key.{word, sub_word, x_power, temp, next_word, Nr, round_keys, KeyLength};
 
+use octets::copy_at;
 use sbox::{sbox, sub_byte};
 
 const RCON: [u8; 10] = [0x01, 0x02, 0x04, 0x08, 0x10, 0x20, 0x40, 0x80, 0x1b, 0x36];
@@ -62,11 +63,7 @@ fn put_word(w: &mut [u8; 240], i: usize, u: [u8; 4])
     requires { i < 60 }
     ensures { w.new ≡ sets w.old (4 * i) u }
 {
-    let p = 4 * i;
-    w[p] = u[0];
-    w[p + 1] = u[1];
-    w[p + 2] = u[2];
-    w[p + 3] = u[3];
+    copy_at(&u, w, 4 * i);
 }
 
 // w[i]: a word of the key, or one made of the words before it.
@@ -97,6 +94,7 @@ pub fn expand_key(key: &[u8]) -> [u8; 240]
     let sbox = sbox();
     let nk = key.len() / 4;
     let mut w = [0u8; 240];
+    // Word i is made of the words before it, and put behind them.
     for i in 0..4 * nk + 28 {
         let u = next_word(&sbox, key, &w, nk, i);
         put_word(&mut w, i, u);

@@ -5,7 +5,6 @@
 use bench_io::{Console, read_file};
 use hex_digits::decode;
 use std::fs::Files;
-use vectors::until;
 
 const LINE_FEED: u8 = 0x0A;
 
@@ -22,13 +21,11 @@ fn block(field: &[u8]) -> [u8; 16] {
 
 // The text under a key of 16 bytes or 32, and zeros under any other.
 fn encrypted(key: &[u8], text: [u8; 16]) -> [u8; 16] {
-    if key.len() == 16 {
-        return aes::encrypt(key, text);
+    if (key.len() == 16) | (key.len() == 32) {
+        aes::encrypt(key, text)
+    } else {
+        [0u8; 16]
     }
-    if key.len() == 32 {
-        return aes::encrypt(key, text);
-    }
-    [0u8; 16]
 }
 
 // Whether the text under the key is the cipher.
@@ -44,77 +41,39 @@ fn agrees(key: &[u8], text: &[u8], cipher: &[u8]) -> bool {
     octets::same(&got, &want)
 }
 
-// What is left of s behind its first n bytes and the byte that ends them.
-fn behind(s: &[u8], n: usize) -> &[u8] {
-    if n < s.len() { &s[n + 1..] } else { &s[..0] }
-}
-
-// Whether a line's vector agrees.
+// Whether a line's vector agrees. What stands behind the second space counts as one field.
 fn line_agrees(line: &[u8]) -> bool {
-    let a = until(line, SPACE);
-    let text = behind(line, a);
-    let b = until(text, SPACE);
-    let cipher = behind(text, b);
-    agrees(&line[..a], &text[..b], cipher)
+    let mut fields = line.splitn(3, |b| *b <= SPACE);
+    let key = fields.next().unwrap_or(&[]);
+    let text = fields.next().unwrap_or(&[]);
+    let cipher = fields.next().unwrap_or(&[]);
+    agrees(key, text, cipher)
 }
 
-#[derive(Clone, Copy)]
-struct Tally {
-    agree: u32,
-    all: u32,
+// Whether a line is a vector, and neither empty nor a comment.
+fn is_vector(line: &[u8]) -> bool {
+    matches!(line.first(), Some(b) if *b != b'#')
 }
 
-impl Tally {
-    // With a line counted, unless it is empty or a comment.
-    fn counted(self, line: &[u8]) -> Tally {
-        if line.len() == 0 {
-            return self;
-        }
-        if line[0] == b'#' {
-            return self;
-        }
-        let all = std::num::wrapping_add_u32(self.all, 1);
-        if line_agrees(line) {
-            return Tally {
-                agree: std::num::wrapping_add_u32(self.agree, 1),
-                all,
-            };
-        }
-        Tally {
-            agree: self.agree,
-            all,
-        }
-    }
-}
-
-// The tally of a file's lines.
-fn count_lines(s: &[u8]) -> Tally {
-    let mut t = Tally { agree: 0, all: 0 };
-    let mut at = 0;
-    while at < s.len() {
-        let n = until(&s[at..], LINE_FEED);
-        let end = at + n;
-        t = t.counted(&s[at..end]);
-        at = end + 1;
-    }
-    t
-}
-
-// Prints the tally of a file, which is at most 65,536 bytes long.
-fn run<R: Console + Files>(rt: &R, path: &[u8], name: &[u8]) {
+// Prints how many vectors of a file, which is at most 65,536 bytes long, agree.
+fn run<R: Console + Files>(rt: &R, path: &[u8], name: &str) {
     let mut text = [0u8; 65_536];
-    let loaded = read_file(rt, path, &mut text);
-    if !loaded.is_read {
+    let Some(n) = read_file(rt, path, &mut text) else {
         return;
-    }
-    let t = count_lines(&text[..loaded.length]);
-    let _ = print!(rt; "{} of {}", t.agree, t.all);
-    let _ = rt.write_all(name);
-    let _ = rt.write_all(b" agree\n");
+    };
+    let all = text[..n]
+        .split(|b| *b <= LINE_FEED)
+        .filter(|line| is_vector(line))
+        .count();
+    let agree = text[..n]
+        .split(|b| *b <= LINE_FEED)
+        .filter(|line| is_vector(line) && line_agrees(line))
+        .count();
+    let _ = println!(rt; "{agree} of {all}{name} agree");
 }
 
 fn main(rt: HostRuntime) {
-    run(&rt, b"aes128.txt", b" known answers of NIST for AES-128");
-    run(&rt, b"aes256.txt", b" known answers of NIST for AES-256");
-    run(&rt, b"fips197.txt", b" worked examples of FIPS 197");
+    run(&rt, b"aes128.txt", " known answers of NIST for AES-128");
+    run(&rt, b"aes256.txt", " known answers of NIST for AES-256");
+    run(&rt, b"fips197.txt", " worked examples of FIPS 197");
 }

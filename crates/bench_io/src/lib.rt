@@ -2,7 +2,8 @@
 // arguments, and files.
 #![tactic(auto)]
 
-ghost use Rattle.std.specs.Prelude.{◌≡◌, ◌+◌, ◌^◌, ◌≤◌, ◌<◌, length, take};
+ghost use Rattle.std.specs.Prelude.{◌+◌, ◌^◌, ◌≤◌, ◌<◌, IfSome};
+ghost use Rattle.bench_io.specs.Read.{ReadInto};
 
 use std::env::{Env, FillError};
 use std::fs::Files;
@@ -36,68 +37,47 @@ pub fn complain(rt: &impl Console, line: &[u8]) {
     rt.write_error(line);
 }
 
-// Whether an argument is a decimal number, and the number, or one more than the most that was asked for if it is larger.
-#[derive(Clone, Copy)]
-pub struct Number {
-    pub is_number: bool,
-    pub value: usize,
-}
-
-const NO_NUMBER: Number = Number {
-    is_number: false,
-    value: 0,
-};
-
-fn is_decimal(c: u8) -> bool {
-    (c >= 0x30) & (c <= 0x39)
-}
-
 // A number with one digit more.
 fn with_digit(n: usize, c: u8, most: usize) -> usize
     requires { (n ≤ most + 1) × (most < 2 ^ 32) }
     ensures { result ≤ most + 1 }
 {
-    let more = n * 10 + (c % 16) as usize;
-    if more > most { most + 1 } else { more }
+    (n * 10 + usize::from(c % 16)).min(most + 1)
 }
 
-fn number_in(digits: &[u8], most: usize) -> Number
+// The decimal number that stands in some bytes, or one more than the most that was asked for if it is larger.
+fn number_in(digits: &[u8], most: usize) -> Option<usize>
     requires { most < 2 ^ 32 }
-    ensures { result.value ≤ most + 1 }
+    ensures { IfSome result (λ n. n ≤ most + 1) }
 {
-    let mut n: usize = 0;
-    for i in 0..digits.len() {
-        if !is_decimal(digits[i]) {
-            return NO_NUMBER;
+    if digits.is_empty() {
+        return None;
+    }
+    let mut n = 0;
+    for &c in digits {
+        if !c.is_ascii_digit() {
+            return None;
         }
-        n = with_digit(n, digits[i], most);
+        n = with_digit(n, c, most);
     }
-    Number {
-        is_number: digits.len() > 0,
-        value: n,
-    }
+    Some(n)
 }
 
 // How many arguments there are, the program's own name among them.
 pub fn argument_count(rt: &impl Env) -> usize {
-    for i in 0..usize::MAX {
-        if let Err(FillError::NotPresent) = rt.arg(i, &mut []) {
-            return i;
-        }
-    }
-    usize::MAX
+    (0..usize::MAX)
+        .find(|i| matches!(rt.arg(*i, &mut []), Err(FillError::NotPresent)))
+        .unwrap_or(usize::MAX)
 }
 
-// Argument i as a number; one that is missing is none.
-pub fn number_argument(rt: &impl Env, i: usize, most: usize) -> Number
+// The number that argument i is, if there is one and it is a decimal number; or one more than the most that was asked for if it is larger.
+pub fn number_argument(rt: &impl Env, i: usize, most: usize) -> Option<usize>
     requires { most < 2 ^ 32 }
-    ensures { result.value ≤ most + 1 }
+    ensures { IfSome result (λ n. n ≤ most + 1) }
 {
     let mut digits = [0u8; ARGUMENT_LIMIT];
-    match rt.arg(i, &mut digits) {
-        Ok(n) => number_in(&digits[..n], most),
-        Err(_) => NO_NUMBER,
-    }
+    let n = rt.arg(i, &mut digits).ok()?;
+    number_in(&digits[..n], most)
 }
 
 // Writes `refused` and the number of a stop to standard error.
@@ -124,13 +104,6 @@ pub fn answer_refused(rt: &impl Console, stop: Stop) {
     if println!(rt; "refused {number}").is_err() {
         not_written(rt);
     }
-}
-
-// Whether a file was read, and how many of its bytes are in the buffer: all, or as many as there is room for.
-#[derive(Clone, Copy)]
-pub struct Loaded {
-    pub is_read: bool,
-    pub length: usize,
 }
 
 // What std prints of an error, without the number that it writes behind the system's words.
@@ -161,15 +134,9 @@ pub fn fail(rt: &impl Console, path: &[u8], error: io::Error) {
 }
 
 // Says why a file, which is to hold `what`, was not read.
-pub fn not_read(rt: &impl Console, what: &[u8], path: &[u8], error: io::Error) -> Loaded
-    ensures { result.length ≡ 0 }
-{
+pub fn not_read(rt: &impl Console, what: &[u8], path: &[u8], error: io::Error) {
     complain(rt, what);
     fail(rt, path, error);
-    Loaded {
-        is_read: false,
-        length: 0,
-    }
 }
 
 // A file's name as text: std takes no other.
@@ -186,9 +153,10 @@ pub fn open_read<R: Files>(rt: &R, path: &[u8]) -> io::Result<R::File> {
 
 // Reads until the buffer is full, the input ends or a read fails, and answers how many bytes are at the buffer's front.
 pub fn read_full(from: &mut impl Read, buffer: &mut [u8]) -> usize
-    ensures { (result ≤ length buffer.new) × (result ≡ length (take result buffer.new)) }
+    ensures { ReadInto buffer.new result }
 {
     let mut done = 0;
+    // A read may take less than there is room for, so how often it is called is not known before.
     while done < buffer.len() {
         match from.read(&mut buffer[done..]) {
             Ok(n) if n > 0 => done += n,
@@ -198,39 +166,40 @@ pub fn read_full(from: &mut impl Read, buffer: &mut [u8]) -> usize
     done
 }
 
-// Reads an open file. That its end was reached, or the buffer's, and no error met on the way, one more read tells.
+// Reads an open file, and answers how many of its bytes are in the buffer: all, or as many as there is room for. That its end was
+// reached, or the buffer's, and no error met on the way, one more read tells.
 pub fn read_open(
     rt: &impl Console,
     file: &mut impl Read,
     what: &[u8],
     path: &[u8],
     buffer: &mut [u8],
-) -> Loaded
-    ensures { (result.length ≤ length buffer.new) × (result.length ≡ length (take result.length buffer.new)) }
+) -> Option<usize>
+    ensures { IfSome result (ReadInto buffer.new) }
 {
     let length = read_full(file, buffer);
-    let mut byte = [0u8; 1];
-    match file.read(&mut byte) {
+    match file.read(&mut [0u8; 1]) {
         Ok(more) if more > 0 && length < buffer.len() => {
-            not_read(rt, what, path, io::Error::from_raw_os_error(INTERRUPTED))
+            not_read(rt, what, path, io::Error::from_raw_os_error(INTERRUPTED));
+            None
         }
-        Ok(_) => Loaded {
-            is_read: true,
-            length,
-        },
-        Err(error) => not_read(rt, what, path, error),
+        Ok(_) => Some(length),
+        Err(error) => {
+            not_read(rt, what, path, error);
+            None
+        }
     }
 }
 
 // Reads a file as far as there is room, or says why it was not opened.
-pub fn read_file<R: Console + Files>(rt: &R, path: &[u8], buffer: &mut [u8]) -> Loaded
-    ensures { (result.length ≤ length buffer.new) × (result.length ≡ length (take result.length buffer.new)) }
+pub fn read_file<R: Console + Files>(rt: &R, path: &[u8], buffer: &mut [u8]) -> Option<usize>
+    ensures { IfSome result (ReadInto buffer.new) }
 {
     match open_read(rt, path) {
-        Ok(mut file) => Loaded {
-            is_read: true,
-            length: read_full(&mut file, buffer),
-        },
-        Err(error) => not_read(rt, b"", path, error),
+        Ok(mut file) => Some(read_full(&mut file, buffer)),
+        Err(error) => {
+            fail(rt, path, error);
+            None
+        }
     }
 }

@@ -2,7 +2,7 @@
 // zero: 32 bytes, or as many as the one argument says, 16 or 32 (A.8). With other arguments nothing is read or run, and standard error says why.
 #![tactic(auto)]
 
-ghost use Rattle.std.specs.Prelude.{◌≡◌, ◌≤◌, length, replicate};
+ghost use Rattle.std.specs.Prelude.{◌≡◌, ◌≤◌, IfSome, length, replicate};
 ghost use Rattle.octets.specs.Limits.{long_key};
 ghost use Rattle.octets.specs.Octets.{put};
 ghost use Rattle.trace.specs.Trace.{ring_length, fram_length, text_length, output};
@@ -13,37 +13,34 @@ use octets::limits::{LONG_KEY, SHORT_KEY};
 use octets::{copy, same};
 use ring_line::refused_line;
 use std::env::Env;
-use stops::Check;
 use trace::{FRAM_LENGTH, RING_LENGTH, TEXT_LENGTH, run_trace};
 
-// The length of the key that an argument names, or 0.
-fn length_named(argument: &[u8]) -> usize
-    ensures { (result ≡ length_named argument.now) × (result ≤ long_key) }
+// The length of the key that an argument names, if it names one.
+#[tactic(auto, unfolding(crate::specs::Argument::length_named))]
+fn length_named(argument: &[u8]) -> Option<usize>
+    ensures { (result ≡ length_named argument.now) × IfSome result (λ n. n ≤ long_key) }
 {
     if same(argument, b"16") {
-        return SHORT_KEY;
+        Some(SHORT_KEY)
+    } else if same(argument, b"32") {
+        Some(LONG_KEY)
+    } else {
+        None
     }
-    if same(argument, b"32") {
-        return LONG_KEY;
-    }
-    0
 }
 
-// The length of the key, or 0 where the arguments are wrong.
-fn key_length(rt: &impl Env) -> usize
-    ensures { result ≤ long_key }
+// The length of the key, if the arguments are in order.
+fn key_length(rt: &impl Env) -> Option<usize>
+    ensures { IfSome result (λ n. n ≤ long_key) }
 {
-    let count = argument_count(rt);
-    if count < 2 {
-        return LONG_KEY;
-    }
-    if count > 2 {
-        return 0;
-    }
-    let mut argument = [0u8; 8];
-    match rt.arg(1, &mut argument) {
-        Ok(n) => length_named(&argument[..n]),
-        Err(_) => 0,
+    match argument_count(rt) {
+        0 | 1 => Some(LONG_KEY),
+        2 => {
+            let mut argument = [0u8; 8];
+            let n = rt.arg(1, &mut argument).ok()?;
+            length_named(&argument[..n])
+        }
+        _ => None,
     }
 }
 
@@ -53,16 +50,12 @@ fn run(zeros: usize, trace: &[u8], ring: &mut [u8], fram: &mut [u8], text: &mut 
     ensures { (text.new ≡ put text.old 0 (output (replicate zeros 0) trace.now)) × (result ≡ length (output (replicate zeros 0) trace.now)) × (result ≤ length text.old) }
 {
     let key = [0u8; LONG_KEY];
-    let traced = run_trace(&key[..zeros], trace, ring, fram, text);
-    let check = traced.check;
-    match check {
-        Check::Pass => traced.written,
-        Check::Stopped(stop) => {
+    match run_trace(&key[..zeros], trace, ring, fram, text) {
+        Ok(written) => written,
+        Err(stop) => {
             let line = refused_line(stop);
-            let bytes = line.bytes;
-            let n = line.length;
-            copy(&bytes[..n], text);
-            n
+            copy(line.as_bytes(), text);
+            line.length
         }
     }
 }
@@ -83,14 +76,13 @@ fn print(
 }
 
 fn main(rt: HostRuntime) {
-    let zeros = key_length(&rt);
-    if zeros == 0 {
+    let Some(zeros) = key_length(&rt) else {
         complain(
             &rt,
             b"usage: bench_trace [LENGTH], the key's length in bytes, 16 or 32; 32 if none is given\n",
         );
         return;
-    }
+    };
     // One byte more than the longest trace has shows one that is too long.
     let mut input = [0u8; 16_385];
     let n = read_full(&mut rt.reader(), &mut input);

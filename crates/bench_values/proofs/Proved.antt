@@ -1,7 +1,6 @@
 -- Each bench value by computing, and M13's by the laws of lengths.
-use mathlib.Core.Path.{◌≡◌, refl}
-use Prim.Native.Nat.{ℕ}
-use lib.ListN.{length, length-replicate}
+use Rattle.std.proofs.Common.{◌≡◌, refl, ℕ, length}
+use lib.ListN.{length-replicate}
 use Rattle.octets.specs.Octets.{part, put, same, blank, number, bytes}
 use Rattle.octets.specs.Search.{first_below}
 use Rattle.octets.specs.Word.{word_at, kind_of, value_of, word, top_word}

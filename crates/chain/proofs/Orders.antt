@@ -10,9 +10,8 @@ use Rattle.octets.specs.Limits.{tag_length}
 use Rattle.octets.specs.Octets.{same}
 use Rattle.octets.proofs.Laws.{same_equal, equal_same, unequal_same}
 use Rattle.octets.proofs.Tables.{length_table, get_or_table, is_table}
-use Rattle.chain.specs.Chain.{count, tag_at, previous, own, nth, ChainOrder, entry_with, owner, follower, own_twice, first_entry, place, ends_early, order}
+use Rattle.chain.specs.Chain.{count, tag_at, previous, own, nth, ChainOrder, entry_with, owner, follower, not_first, own_twice, begins, first_entry, place, ends_early, order}
 use Rattle.octets.proofs.Search.{Found, found, none_below, some_ends, ends, only_one}
-use Rattle.chain.proofs.OwnTest.{own_test}
 use Rattle.chain.proofs.Pigeons.{Stands, each_stands}
 
 -- ---- an entry with a tag
@@ -49,11 +48,7 @@ module _ (E : List ℕ) (offset : ℕ) (tag : List ℕ) where
   unfolding entry_with
   one_with k h e u = only_one (count E) tag_test k h (equal_same _ tag e) (λ j l t. u j l (same_equal _ tag t))
 
--- ---- what the other searches test
-
--- its previous tag is none's own
-abbrev pub first_test : (E : List ℕ) → ℕ → Bool
-first_test E i = eqb (owner E (previous E i)) (count E)
+-- ---- what the walk's search tests
 
 -- there is none at this place
 abbrev pub end_test : (E : List ℕ) → ℕ → Bool
@@ -62,7 +57,7 @@ end_test E k = eqb (place E k) (count E)
 -- an entry, or past the last
 pub place_small : (E : List ℕ) (k : ℕ) → place E k ≤ count E
 unfolding place first_entry
-place_small E zero = (found (count E) (first_test E)).within
+place_small E zero = (found (count E) (begins E)).within
 place_small E (suc k) = with_small E 0 (own E (place E k))
 
 -- ---- entries f 0, f 1 and so on, each of which names the one before
@@ -86,7 +81,7 @@ module _ (E : List ℕ) (differ : own_twice E ≡ false) (long : ends_early E �
   -- every entry is the first with its own tag
   first_own : (i : ℕ) → i < count E → owner E (own E i) ≡ i
   unfolding own_twice
-  first_own i h = eqb-true _ i (not-false _ (none_below (count E) (own_test E) differ i h))
+  first_own i h = eqb-true _ i (not-false _ (none_below (count E) (not_first E) differ i h))
 
   own_one : (i j : ℕ) → i < count E → j < count E → own E i ≡ own E j → i ≡ j
   own_one i j hi hj e = sym (first_own i hi) ∙ ap (owner E) e ∙ first_own j hj
@@ -100,7 +95,7 @@ module _ (E : List ℕ) (differ : own_twice E ≡ false) (long : ends_early E �
   walk_first i h e =
       let z : 0 < count E = omega arith in
       let n : owner E (previous E (place E 0)) ≡ count E =
-      eqb-true _ _ ((found (count E) (first_test E)).holds (place_there 0 z)) in
+      eqb-true _ _ ((found (count E) (begins E)).holds (place_there 0 z)) in
       with_none E tag_length (previous E (place E 0)) n i h (sym e)
 
   walk_later : (k : ℕ) → suc k < count E → previous E (place E (suc k)) ≡ own E (place E k)
@@ -130,7 +125,7 @@ module _ (E ps : List ℕ) (o : ChainOrder E ps) where
 
   order_differs : own_twice E ≡ false
   unfolding own_twice
-  order_differs = some_ends (count E) (own_test E) (count E) (λ i h. ap not (eq-eqb _ i (first_with i h))) refl
+  order_differs = some_ends (count E) (not_first E) (count E) (λ i h. ap not (eq-eqb _ i (first_with i h))) refl
     where
       first_with : (i : ℕ) → i < count E → owner E (own E i) ≡ i
       first_with i h = one_with E tag_length (own E i) i h refl (λ j l e. o.own_differ j i l h e)
@@ -139,7 +134,7 @@ module _ (E ps : List ℕ) (o : ChainOrder E ps) where
   order_first : 0 < count E → place E 0 ≡ nth ps 0
   unfolding place first_entry
   order_first z =
-      only_one (count E) (first_test E) (nth ps 0) (o.there 0 z)
+      only_one (count E) (begins E) (nth ps 0) (o.there 0 z)
       (eq-eqb _ _ (none_with E tag_length (previous E (nth ps 0)) (λ i h e. o.first i (omega arith) (sym e))))
       (λ j h t. only j h (eqb-true _ _ t) (stands j h))
     where

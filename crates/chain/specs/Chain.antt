@@ -1,6 +1,6 @@
 -- Which dump came before which (document 02, A.11). An entry is 32 bytes: a checkpoint's previous tag, then its own. Entries E stand one
 -- behind the other, unsorted; an entry is known by its position, counted from 0.
-use Rattle.std.specs.Prelude.{ℕ, zero, suc, ◌+◌, ◌*◌, ◌/◌, ◌%◌, ◌<◌, ◌≡◌, Bool, not, ◌||◌, List, [], ◌∷◌, length, get_or, eqb, ltb}
+use Rattle.std.specs.Prelude.{ℕ, zero, suc, ◌+◌, ◌*◌, ◌/◌, ◌%◌, ◌<◌, ◌≡◌, Bool, not, ◌||◌, List, [], ◌∷◌, length, get_or, eqb, ltb, Result}
 use Rattle.std.proofs.Math.Option.{Option, none, some}
 use Rattle.octets.specs.Limits.{entry_length, entries_limit, tag_length}
 use Rattle.octets.specs.Octets.{part, put, same}
@@ -8,7 +8,7 @@ use Rattle.octets.specs.Search.{first_below, some_below}
 use Rattle.octets.specs.Table.{table}
 use Rattle.stops.specs.Stops.{first_of}
 use Rattle.stops.specs.View.{check_number}
-use Rattle.stops.specs.declared.Check.{Check}
+use Rattle.stops.specs.declared.Stop.{Stop}
 
 -- ---- the entries
 
@@ -57,13 +57,21 @@ owner E tag = entry_with E tag_length tag
 abbrev pub follower : (E : List ℕ) → ℕ → ℕ
 follower E i = entry_with E 0 (own E i)
 
--- some entry is not the first with its own tag
-unfoldable pub own_twice : List ℕ → Bool
-own_twice E = some_below (count E) (λ i. not (eqb (owner E (own E i)) i))
+-- entry i is not the first with its own tag
+abbrev pub not_first : (E : List ℕ) → ℕ → Bool
+not_first E i = not (eqb (owner E (own E i)) i)
 
--- the first entry whose previous tag is none's own; `count E` if there is none
+-- some entry is not
+unfoldable pub own_twice : List ℕ → Bool
+own_twice E = some_below (count E) (not_first E)
+
+-- the previous tag of entry i is none's own
+abbrev pub begins : (E : List ℕ) → ℕ → Bool
+begins E i = eqb (owner E (previous E i)) (count E)
+
+-- the first such entry; `count E` if there is none
 unfoldable pub first_entry : List ℕ → ℕ
-first_entry E = first_below (count E) (λ i. eqb (owner E (previous E i)) (count E))
+first_entry E = first_below (count E) (begins E)
 
 -- the entry at place k of the chain; `count E` where there is none
 unfoldable pub place : (E : List ℕ) → ℕ → ℕ
@@ -107,5 +115,5 @@ unfoldable pub chain_order : (E positions : List ℕ) → Ordered
 chain_order E positions = ordered_by (chain_stop E positions) E positions
 
 -- the code's answer, with what it left in the buffer
-abbrev pub ordered_as : Check → List ℕ → Ordered
+abbrev pub ordered_as : Result Unit Stop → List ℕ → Ordered
 ordered_as r positions = record { stop = check_number r; positions = positions }

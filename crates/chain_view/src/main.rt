@@ -10,20 +10,14 @@ use bench_io::{Console, answer_refused, not_written, read_open};
 use chain::chain_order;
 use octets::limits::{ENTRIES_LIMIT, ENTRY_LENGTH};
 use octets::part;
-use stops::Check;
 
 // One byte more than the most entries have, so that more are seen to be more.
 const ROOM: usize = ENTRY_LENGTH * ENTRIES_LIMIT + 1;
 
-// Writes a number and a line feed; whether all was taken.
-fn write_line(rt: &impl Print, number: u8) -> bool {
-    rt.println(number).is_ok()
-}
-
 // Writes numbers, one a line, or complains once.
 fn write_lines(rt: &impl Console, numbers: &[u8]) {
-    for i in 0..numbers.len() {
-        if !write_line(rt, numbers[i]) {
+    for number in numbers {
+        if rt.println(*number).is_err() {
             not_written(rt);
             return;
         }
@@ -34,21 +28,18 @@ fn write_lines(rt: &impl Console, numbers: &[u8]) {
 fn run(rt: &impl Console, entries: &mut [u8], positions: &mut [u8])
     requires { (length entries.old ≤ entry_length * entries_limit + 1) × (length positions.old ≡ entries_limit) }
 {
-    let loaded = read_open(
+    let Some(length) = read_open(
         rt,
         &mut rt.reader(),
         b"entries: ",
         b"standard input",
         entries,
-    );
-    if !loaded.is_read {
+    ) else {
         return;
-    }
-    let length = loaded.length;
-    let check = chain_order(&entries[..length], positions);
-    match check {
-        Check::Pass => write_lines(rt, part(positions, 0, length / ENTRY_LENGTH)),
-        Check::Stopped(stop) => answer_refused(rt, stop),
+    };
+    match chain_order(&entries[..length], positions) {
+        Ok(()) => write_lines(rt, part(positions, 0, length / ENTRY_LENGTH)),
+        Err(stop) => answer_refused(rt, stop),
     }
 }
 

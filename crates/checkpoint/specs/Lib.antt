@@ -3,4 +3,6 @@ pub mod Fram
 pub mod Checkpoint
 pub mod Half
 pub mod Layout
-pub mod Prepared
+pub mod Head
+pub mod Sealing
+pub mod View

@@ -1,18 +1,31 @@
 // Sealing a checkpoint into a staging buffer.
 ghost use Rattle.std.specs.Prelude.{◌≡◌, List, ◌++◌, ℕ, ◌+◌, ◌-◌, ◌^◌, ◌≤◌, ◌<◌, length};
-ghost use Rattle.octets.specs.Limits.{nonce_length, part_limit, restart_limit, packet_limit, tag_length};
+ghost use Rattle.octets.specs.Limits.{nonce_length, tag_length};
 ghost use Rattle.octets.specs.Octets.{part, put};
 ghost use Rattle.octets.specs.Word.{word};
-ghost use Rattle.aes.specs.Word.{RoundTable};
 ghost use Rattle.aes.specs.Cipher.{cipher, aes};
 ghost use Rattle.gcm.specs.Gcm.{AE_text, AE_tag};
-ghost use Rattle.checkpoint.specs.Checkpoint.{Longer, head_words, words, head_length, sealed_length, sealed, own_tag, checkpoint_of};
-ghost use Rattle.checkpoint.specs.Prepared.{Prepared};
+ghost use Rattle.checkpoint.specs.Checkpoint.{Longer, head_words, words, head_length};
+ghost use Rattle.checkpoint.specs.Sealing.{Sealable, Seals};
+ghost use Rattle.checkpoint.specs.View.{view_unsealed};
 
 use super::half::tag_at;
 use super::layout::{HEAD_LENGTH, WORDS_LENGTH};
+use aes::cipher::Schedule;
 use gcm::counter_mode::encrypt;
+use gcm::prepared::Prepared;
 use octets::{copy_at, word_of};
+
+// A checkpoint that is to be sealed.
+#[derive(Clone, Copy)]
+pub struct Unsealed<'a> {
+    pub nonce: &'a [u8],
+    pub packet: usize,
+    pub restarts: usize,
+    pub previous: &'a [u8],
+    pub open_part: &'a [u8],
+    pub secret: &'a [u8],
+}
 
 // A word of a kind and a value at offset i.
 fn write_word(staging: &mut [u8], i: usize, kind: u32, value: usize)
@@ -43,68 +56,51 @@ fn write_head(
 }
 
 // The secret part, encrypted straight into staging from offset i on.
-fn write_secret(
-    table: &[u32; 256],
-    keys: &[u8; 240],
-    rounds: usize,
-    nonce: &[u8],
-    secret: &[u8],
-    staging: &mut [u8],
-    i: usize,
-)
-    requires { RoundTable table.now × (0 < rounds) × (rounds < 15) × (length nonce.now ≡ nonce_length) × (i + length secret.now ≤ length staging.old) }
-    ensures { staging.new ≡ put staging.old i (AE_text (cipher rounds keys.now) nonce.now secret.now) }
+fn write_secret(schedule: &Schedule<'_>, nonce: &[u8], secret: &[u8], staging: &mut [u8], i: usize)
+    requires { (length nonce.now ≡ nonce_length) × (i + length secret.now ≤ length staging.old) }
+    ensures { staging.new ≡ put staging.old i (AE_text (cipher schedule.now.rounds schedule.now.keys.now) nonce.now secret.now) }
 {
-    encrypt(table, keys, rounds, nonce, secret, &mut staging[i..]);
+    encrypt(schedule, nonce, secret, &mut staging[i..]);
 }
 
 // The tag of what stands in staging, associated data up to offset i and the sealed secret part from there to j, goes to j.
 fn write_tag(
-    table: &[u32; 256],
-    keys: &[u8; 240],
-    rounds: usize,
-    steps: &[u64; 256],
+    prepared: &Prepared<'_>,
     nonce: &[u8],
     staging: &mut [u8],
     i: usize,
     j: usize,
 ) -> [u8; 16]
-    requires { Prepared table.now keys.now steps.now rounds × (length nonce.now ≡ nonce_length) × (i ≤ j) × (j < 2 ^ 60) × (j + tag_length ≤ length staging.old) }
-    ensures { (result ≡ AE_tag (cipher rounds keys.now) nonce.now (part staging.old 0 i) (part staging.old i (j - i))) × (staging.new ≡ put staging.old j result) }
+    requires { (length nonce.now ≡ nonce_length) × (i ≤ j) × (j < 2 ^ 60) × (j + tag_length ≤ length staging.old) }
+    ensures { (result ≡ AE_tag (cipher prepared.now.schedule.rounds prepared.now.schedule.keys.now) nonce.now (part staging.old 0 i) (part staging.old i (j - i))) × (staging.new ≡ put staging.old j result) }
 {
-    let tag = tag_at(table, keys, rounds, steps, nonce, staging, i, j);
+    let tag = tag_at(prepared, nonce, staging, i, j);
     copy_at(&tag, staging, j);
     tag
 }
 
-// Seals a checkpoint to the front of staging, where what stands behind it stays, and answers its tag. It needs what was prepared of a key.
-pub fn seal(
-    table: &[u32; 256],
-    keys: &[u8; 240],
-    rounds: usize,
-    steps: &[u64; 256],
-    nonce: &[u8],
-    packet: usize,
-    restarts: usize,
-    previous: &[u8],
-    open: &[u8],
-    secret: &[u8],
-    staging: &mut [u8],
-) -> [u8; 16]
-    requires { Prepared table.now keys.now steps.now rounds × (length nonce.now ≡ nonce_length) × (packet ≤ packet_limit) × (restarts ≤ restart_limit) × (length previous.now ≡ tag_length) × (length «open».now ≤ part_limit) × (length secret.now ≤ part_limit) × (sealed_length Longer (length «open».now) (length secret.now) ≤ length staging.old) }
-    ensures { (key : List ℕ) → cipher rounds keys.now ≡ aes key → (result ≡ own_tag key (checkpoint_of packet «open».now secret.now restarts previous.now nonce.now)) × (staging.new ≡ put staging.old 0 (sealed key (checkpoint_of packet «open».now secret.now restarts previous.now nonce.now))) }
+// Seals a checkpoint to the front of staging, where what stands behind it stays, and answers its tag.
+pub fn seal(prepared: &Prepared<'_>, unsealed: &Unsealed<'_>, staging: &mut [u8]) -> [u8; 16]
+    requires { Sealable (view_unsealed unsealed.now) staging.old }
+    ensures { (key : List ℕ) → cipher prepared.now.schedule.rounds prepared.now.schedule.keys.now ≡ aes key → Seals key (view_unsealed unsealed.now) result staging.old staging.new }
 {
-    let i = HEAD_LENGTH + open.len();
-    let j = i + secret.len();
+    let i = HEAD_LENGTH + unsealed.open_part.len();
+    let j = i + unsealed.secret.len();
     write_head(
         staging,
-        packet,
-        open.len() / 4,
-        secret.len() / 4,
-        restarts,
-        previous,
+        unsealed.packet,
+        unsealed.open_part.len() / 4,
+        unsealed.secret.len() / 4,
+        unsealed.restarts,
+        unsealed.previous,
     );
-    copy_at(open, staging, HEAD_LENGTH);
-    write_secret(table, keys, rounds, nonce, secret, staging, i);
-    write_tag(table, keys, rounds, steps, nonce, staging, i, j)
+    copy_at(unsealed.open_part, staging, HEAD_LENGTH);
+    write_secret(
+        &prepared.schedule,
+        unsealed.nonce,
+        unsealed.secret,
+        staging,
+        i,
+    );
+    write_tag(prepared, unsealed.nonce, staging, i, j)
 }

@@ -3,20 +3,19 @@
 // form, which comes from standard input.
 #![tactic(auto)]
 
-ghost use Rattle.std.specs.Prelude.{◌≡◌, ◌<◌, ◌≤◌, true, length};
+ghost use Rattle.std.specs.Prelude.{◌≡◌, ◌<◌, ◌≤◌, length};
 ghost use Rattle.octets.specs.Limits.{nonce_length, packet_limit, part_limit};
 ghost use Rattle.gcm.specs.Calls.{KeyLength};
-ghost use Rattle.checkpoint.specs.Checkpoint.{head_length};
-ghost use Rattle.checkpoint.specs.Half.{form_of, open_length, secret_length, good_head};
 
-use aes::table::round_table;
-use aes::{expand_key, rounds};
 use bench_io::read_full;
 use checkpoint::half::{Head, open_part, open_secret, read_head};
 use checkpoint::layout::{EMPTY_LENGTH, HEAD_LENGTH, PACKET_LENGTH};
+use checkpoint::staging::Unsealed;
 use checkpoint::under::{good_tag_under, seal_under};
+use gcm::prepared::with_key;
 use octets::limits::{LONG_KEY, PART_LIMIT, SHORT_KEY};
 use octets::{copy_at, part, same};
+use stops::{Stop, StopIf, stop_number};
 
 // The longest checkpoint, 65,584 bytes; an image holds two.
 const HALF: usize = EMPTY_LENGTH + 2 * PART_LIMIT;
@@ -37,24 +36,34 @@ struct Case {
     secret: usize,
     restarts: usize,
     first: u8,
+    ghost half_named: { half ≤ 1 },
+    ghost packet_small: { packet ≤ packet_limit },
+    ghost open_small: { «open» ≤ part_limit },
+    ghost secret_small: { secret ≤ part_limit },
+    ghost restarts_small: { restarts ≤ 8 },
+}
+
+// How a half reads that no stop keeps from being read.
+enum Reading {
+    Same,
+    PartDiffers,
+    HeadDiffers,
 }
 
 // Bytes that begin with `first` and rise by `step`.
-fn rising(s: &mut [u8], first: u8, step: u8)
-    ensures { length s.new ≡ length s.old }
-{
+fn rising<const N: usize>(first: u8, step: u8) -> [u8; N] {
+    let mut s = [0u8; N];
     let mut b = first;
-    for i in 0..s.len() {
-        s[i] = b;
-        b = std::num::wrapping_add_u8(b, step);
+    for x in s.iter_mut() {
+        *x = b;
+        b = b.wrapping_add(step);
     }
+    s
 }
 
 // The key of 32 bytes, which begins with that of 16.
 fn long_key() -> [u8; LONG_KEY] {
-    let mut s = [0u8; LONG_KEY];
-    rising(&mut s, 0, 1);
-    s
+    rising(0, 1)
 }
 
 fn key_length(short: bool) -> usize
@@ -64,59 +73,45 @@ fn key_length(short: bool) -> usize
 }
 
 fn nonce(first: u8) -> [u8; 12] {
-    let mut s = [0u8; 12];
-    rising(&mut s, first, 1);
-    s
-}
-
-fn previous() -> [u8; 16] {
-    let mut s = [0u8; 16];
-    rising(&mut s, 0xa0, 1);
-    s
+    rising(first, 1)
 }
 
 fn first_part() -> [u8; PART_LIMIT] {
-    let mut s = [0u8; PART_LIMIT];
-    rising(&mut s, 1, 7);
-    s
+    rising(1, 7)
 }
 
 fn second_part() -> [u8; PART_LIMIT] {
-    let mut s = [0u8; PART_LIMIT];
-    rising(&mut s, 3, 5);
-    s
+    rising(3, 5)
 }
 
 // Seals the checkpoint into staging.
 fn stage(c: Case, staging: &mut [u8])
-    requires { (c.packet ≤ packet_limit) × (c.«open» ≤ part_limit) × (c.secret ≤ part_limit) × (c.restarts ≤ 8) × (length staging.old ≡ 65584) }
+    requires { length staging.old ≡ 65584 }
     ensures { length staging.new ≡ 65584 }
 {
-    let open = c.open;
-    let secret = c.secret;
+    let nonce = nonce(c.first);
+    let previous = rising::<16>(0xa0, 1);
     let first = first_part();
     let second = second_part();
-    let bytes = long_key();
+    let unsealed = Unsealed {
+        nonce: &nonce,
+        packet: c.packet,
+        restarts: c.restarts,
+        previous: &previous,
+        open_part: part(&first, 0, c.open),
+        secret: part(&second, 0, c.secret),
+    };
     seal_under(
-        part(&bytes, 0, key_length(c.short)),
-        &nonce(c.first),
-        c.packet,
-        c.restarts,
-        &previous(),
-        part(&first, 0, open),
-        part(&second, 0, secret),
+        part(&long_key(), 0, key_length(c.short)),
+        &unsealed,
         staging,
     );
 }
 
-fn print_byte(rt: &impl Print, b: u8) {
-    let _ = print!(rt; "{b:02x}");
-}
-
 // Prints bytes in hexadecimal.
 fn print_bytes(rt: &impl Print, s: &[u8]) {
-    for i in 0..s.len() {
-        print_byte(rt, s[i]);
+    for b in s {
+        let _ = print!(rt; "{b:02x}");
     }
 }
 
@@ -131,26 +126,17 @@ fn print_checkpoint(rt: &impl Print, s: &[u8]) {
     }
 }
 
-fn print_number(rt: &impl Print, name: &[u8], n: usize) {
-    let _ = rt.write_all(name);
-    let _ = rt.print(n);
-}
-
 fn print_case(rt: &impl Print, c: Case) {
-    if c.half == 0 {
-        let _ = rt.write_all(b"half A");
-    } else {
-        let _ = rt.write_all(b"half B");
-    }
-    print_number(rt, b" packet ", c.packet);
-    print_number(rt, b" open ", c.open);
-    print_number(rt, b" secret ", c.secret);
-    print_number(rt, b" restarts ", c.restarts);
+    let half = if c.half == 0 { 'A' } else { 'B' };
+    let _ = print!(rt;
+        "half {half} packet {} open {} secret {} restarts {}",
+        c.packet, c.open, c.secret, c.restarts
+    );
 }
 
 // Puts the checkpoint into its half of the image.
 fn place(c: Case, image: &mut [u8])
-    requires { (c.half ≤ 1) × (c.packet ≤ packet_limit) × (c.«open» ≤ part_limit) × (c.secret ≤ part_limit) × (c.restarts ≤ 8) × (length image.old ≡ 131168) }
+    requires { length image.old ≡ 131168 }
     ensures { length image.new ≡ 131168 }
 {
     let mut staging = [0u8; HALF];
@@ -161,9 +147,7 @@ fn place(c: Case, image: &mut [u8])
 }
 
 // Prints what the checkpoint's half then begins with.
-fn show(rt: &impl Print, c: Case)
-    requires { (c.half ≤ 1) × (c.packet ≤ packet_limit) × (c.«open» ≤ part_limit) × (c.secret ≤ part_limit) × (c.restarts ≤ 8) }
-{
+fn show(rt: &impl Print, c: Case) {
     let mut image = [0xFFu8; 2 * HALF];
     place(c, &mut image);
     print_case(rt, c);
@@ -175,137 +159,99 @@ fn show(rt: &impl Print, c: Case)
 }
 
 // Whether the open part is the one sealed.
-fn open_agrees(half: &[u8], start: usize, open: usize) -> bool
-    requires { (good_head part_limit (form_of half.now) half.now ≡ true) × (start ≡ head_length (form_of half.now)) × («open» ≡ open_length (form_of half.now) half.now) × («open» ≤ part_limit) }
+fn open_agrees(head: &Head<'_>) -> bool
+    requires { head.now.open_part ≤ part_limit }
 {
-    let first = first_part();
-    same(open_part(half, start, open), part(&first, 0, open))
+    same(open_part(head), part(&first_part(), 0, head.open_part))
 }
 
-// Whether a state begins with the secret part that was sealed.
-fn secret_agrees(state: &[u8; PART_LIMIT], secret: usize) -> bool
-    requires { secret ≤ part_limit }
+// Whether the secret part, decrypted, is the one sealed.
+fn secret_agrees(key: &[u8], nonce: &[u8], head: &Head<'_>) -> bool
+    requires { KeyLength (length key.now) × (length nonce.now ≡ nonce_length) × (head.now.secret ≤ part_limit) }
 {
-    let second = second_part();
-    same(part(state, 0, secret), part(&second, 0, secret))
+    let mut state = [0u8; PART_LIMIT];
+    with_key(
+        key,
+        &mut |prepared| {
+            open_secret(&prepared.schedule, nonce, head, &mut state);
+        },
+    );
+    same(
+        part(&state, 0, head.secret),
+        part(&second_part(), 0, head.secret),
+    )
 }
 
 // Whether the head says what the checkpoint's does.
-fn head_agrees(head: Head, c: Case) -> bool {
+fn head_agrees(head: &Head<'_>, c: Case) -> bool {
     (head.packet == c.packet)
-        & (head.open == c.open)
+        & (head.open_part == c.open)
         & (head.secret == c.secret)
         & (head.restarts == c.restarts)
 }
 
-// Whether the secret part, decrypted, is the one sealed.
-fn secret_opens(
-    key: &[u8],
-    nonce: &[u8],
-    half: &[u8],
-    start: usize,
-    open: usize,
-    secret: usize,
-) -> bool
-    requires { KeyLength (length key.now) × (length nonce.now ≡ nonce_length) × (good_head part_limit (form_of half.now) half.now ≡ true) × (start ≡ head_length (form_of half.now)) × («open» ≡ open_length (form_of half.now) half.now) × (secret ≡ secret_length (form_of half.now) half.now) × (secret ≤ part_limit) }
-{
-    let table = round_table();
-    let keys = expand_key(key);
-    let mut state = [0u8; PART_LIMIT];
-    open_secret(
-        &table,
-        &keys,
-        rounds(key.len()),
-        nonce,
-        half,
-        start,
-        open,
-        secret,
-        &mut state,
-    );
-    secret_agrees(&state, secret)
-}
-
-// Stop 12, or 0 where both parts are the ones sealed, else 1.
-fn opened(short: bool, half: &[u8], start: usize, open: usize, secret: usize, first: u8) -> usize
-    requires { (good_head part_limit (form_of half.now) half.now ≡ true) × (start ≡ head_length (form_of half.now)) × («open» ≡ open_length (form_of half.now) half.now) × (secret ≡ secret_length (form_of half.now) half.now) × («open» ≤ part_limit) × (secret ≤ part_limit) }
+// Whether both parts are the ones sealed, where the tag is right.
+fn opened(short: bool, head: &Head<'_>, first: u8) -> Result<bool, Stop>
+    requires { (head.now.open_part ≤ part_limit) × (head.now.secret ≤ part_limit) }
 {
     let bytes = long_key();
     let key = part(&bytes, 0, key_length(short));
     let nonce = nonce(first);
-    if good_tag_under(key, &nonce, half, start, open, secret) {
-        if open_agrees(half, start, open) & secret_opens(key, &nonce, half, start, open, secret) {
-            return 0;
-        }
-        return 1;
+    if good_tag_under(key, &nonce, head) {
+        return Ok(open_agrees(head) & secret_agrees(key, &nonce, head));
     }
-    12
+    Err(Stop::TagDiffers)
 }
 
-// The stop that the half gives; else 0 where it reads as the checkpoint, 1 where a part differs, 2 where the head does.
-fn reads(half: &[u8], c: Case) -> usize {
+// How the half reads beside the checkpoint, or the stop that it gives.
+fn reads(half: &[u8], c: Case) -> Result<Reading, Stop> {
     if half.len() < EMPTY_LENGTH - PACKET_LENGTH {
-        return 11;
+        return Err(Stop::BadHead);
     }
-    let head = read_head(half);
-    if head.good {
-        let n = opened(c.short, half, head.start, head.open, head.secret, c.first);
-        if n != 0 {
-            return n;
-        }
-        if head_agrees(head, c) {
-            return 0;
-        }
-        return 2;
+    let Ok(head) = read_head(half) else {
+        return Err(Stop::BadHead);
+    };
+    if !opened(c.short, &head, c.first)? {
+        return Ok(Reading::PartDiffers);
     }
-    11
+    if !head_agrees(&head, c) {
+        return Ok(Reading::HeadDiffers);
+    }
+    Ok(Reading::Same)
 }
 
-// The same checkpoint, with a key of the other length.
-fn other_key(c: Case) -> Case {
-    Case {
-        short: !c.short,
-        half: c.half,
-        packet: c.packet,
-        open: c.open,
-        secret: c.secret,
-        restarts: c.restarts,
-        first: c.first,
+// What is printed of it: the stop's number, else 0 where the half reads as the checkpoint, 1 where a part differs, 2 where the head does.
+fn reading_number(half: &[u8], c: Case) -> u32 {
+    match reads(half, c) {
+        Ok(Reading::Same) => 0,
+        Ok(Reading::PartDiffers) => 1,
+        Ok(Reading::HeadDiffers) => 2,
+        Err(stop) => stop_number(stop),
     }
 }
 
 // Prints how the checkpoint reads from its half, under its key and under that of the other length.
-fn show_reading(rt: &impl Print, c: Case)
-    requires { (c.half ≤ 1) × (c.packet ≤ packet_limit) × (c.«open» ≤ part_limit) × (c.secret ≤ part_limit) × (c.restarts ≤ 8) }
-{
+fn show_reading(rt: &impl Print, c: Case) {
     let mut image = [0xFFu8; 2 * HALF];
     place(c, &mut image);
     print_case(rt, c);
-    let i = c.half * HALF;
-    let half = part(&image, i, HALF);
-    print_number(rt, b": ", reads(half, c));
-    print_number(rt, b", under the other key ", reads(half, other_key(c)));
-    let _ = rt.write_all(b"\n");
+    let half = part(&image, c.half * HALF, HALF);
+    let mut other = c;
+    other.short = !c.short;
+    let own = reading_number(half, c);
+    let under_other = reading_number(half, other);
+    let _ = println!(rt; ": {own}, under the other key {under_other}");
 }
 
 // Prints how the first n bytes of a half with the checkpoint read, with one byte changed, which then comes back.
-fn show_change(
-    rt: &impl Print,
-    name: &[u8],
-    c: Case,
-    half: &mut [u8],
-    n: usize,
-    at: usize,
-    byte: u8,
-)
+fn show_change(rt: &impl Print, name: &str, c: Case, half: &mut [u8], n: usize, at: usize, byte: u8)
     requires { (n ≤ 65584) × (at < 65584) × (length half.old ≡ 65584) }
     ensures { length half.new ≡ 65584 }
 {
     let before = half[at];
     half[at] = byte;
-    let _ = rt.write_all(name);
-    print_number(rt, b": ", reads(part(half, 0, n), c));
-    let _ = rt.write_all(b"\n");
+    let number = reading_number(part(half, 0, n), c);
+    let _ = println!(rt; "{name}: {number}");
     half[at] = before;
 }
 
@@ -319,7 +265,6 @@ fn a_case(
     first: u8,
 ) -> Case
     requires { (half ≤ 1) × (packet ≤ packet_limit) × («open» ≤ part_limit) × (secret ≤ part_limit) × (restarts ≤ 8) }
-    ensures { (result.half ≤ 1) × (result.packet ≤ packet_limit) × (result.«open» ≤ part_limit) × (result.secret ≤ part_limit) × (result.restarts ≤ 8) }
 {
     Case {
         short,
@@ -333,9 +278,7 @@ fn a_case(
 }
 
 // The checkpoint with a number, 0 to 9.
-fn numbered(short: bool, k: usize) -> Case
-    ensures { (result.half ≤ 1) × (result.packet ≤ packet_limit) × (result.«open» ≤ part_limit) × (result.secret ≤ part_limit) × (result.restarts ≤ 8) }
-{
+fn numbered(short: bool, k: usize) -> Case {
     match k {
         0 => a_case(short, 0, 0, 0, 0, 0, 0),
         1 => a_case(short, 1, 1, 0, 0, 8, 128),
@@ -350,38 +293,25 @@ fn numbered(short: bool, k: usize) -> Case
     }
 }
 
-fn show_some(rt: &impl Print, short: bool, from: usize, to: usize) {
-    for k in from..to {
-        show(rt, numbered(short, k));
-    }
-}
-
-fn show_readings(rt: &impl Print, short: bool, from: usize, to: usize) {
-    for k in from..to {
-        show_reading(rt, numbered(short, k));
-    }
-}
-
 fn print_key(rt: &impl Print, short: bool) {
-    print_number(rt, b"a key of ", key_length(short));
-    let _ = rt.write_all(b" bytes\n");
+    let _ = println!(rt; "a key of {} bytes", key_length(short));
 }
 
-// Under the shorter key all but those whose parts have 4,096 bytes.
-fn show_all(rt: &impl Print) {
+// Each checkpoint; under the shorter key all but those whose parts have 4,096 bytes.
+fn for_each_case<R: Print, F: Fn(&R, Case)>(rt: &R, show_one: F)
+    requires { F.IsAlwaysCallable show_one }
+{
     print_key(rt, false);
-    show_some(rt, false, 0, 10);
+    for k in 0..10 {
+        show_one(rt, numbered(false, k));
+    }
     print_key(rt, true);
-    show_some(rt, true, 0, 6);
-    show_some(rt, true, 8, 10);
-}
-
-fn show_all_readings(rt: &impl Print) {
-    print_key(rt, false);
-    show_readings(rt, false, 0, 10);
-    print_key(rt, true);
-    show_readings(rt, true, 0, 6);
-    show_readings(rt, true, 8, 10);
+    for k in 0..6 {
+        show_one(rt, numbered(true, k));
+    }
+    for k in 8..10 {
+        show_one(rt, numbered(true, k));
+    }
 }
 
 // Words of another kind. Those from the open part's length on stand at offset i.
@@ -389,11 +319,11 @@ fn show_kinds(rt: &impl Print, c: Case, half: &mut [u8], i: usize)
     requires { (i ≤ 4) × (length half.old ≡ 65584) }
     ensures { length half.new ≡ 65584 }
 {
-    show_change(rt, b"open length of kind 0", c, half, HALF, i, 0x00);
-    show_change(rt, b"open length of kind 2", c, half, HALF, i, 0x80);
-    show_change(rt, b"secret length of kind 1", c, half, HALF, i + 4, 0x40);
-    show_change(rt, b"secret length of kind 3", c, half, HALF, i + 4, 0xC0);
-    show_change(rt, b"restarts of kind 0", c, half, HALF, i + 8, 0x00);
+    show_change(rt, "open length of kind 0", c, half, HALF, i, 0x00);
+    show_change(rt, "open length of kind 2", c, half, HALF, i, 0x80);
+    show_change(rt, "secret length of kind 1", c, half, HALF, i + 4, 0x40);
+    show_change(rt, "secret length of kind 3", c, half, HALF, i + 4, 0xC0);
+    show_change(rt, "restarts of kind 0", c, half, HALF, i + 8, 0x00);
 }
 
 // Words with another value.
@@ -401,11 +331,11 @@ fn show_values(rt: &impl Print, c: Case, half: &mut [u8], i: usize)
     requires { (i ≤ 4) × (length half.old ≡ 65584) }
     ensures { length half.new ≡ 65584 }
 {
-    show_change(rt, b"open part of 8194 words", c, half, HALF, i + 2, 0x20);
-    show_change(rt, b"open part of 1 word", c, half, HALF, i + 3, 1);
-    show_change(rt, b"secret part of 8193 words", c, half, HALF, i + 6, 0x20);
-    show_change(rt, b"9 restarts", c, half, HALF, i + 11, 9);
-    show_change(rt, b"8 restarts", c, half, HALF, i + 11, 8);
+    show_change(rt, "open part of 8194 words", c, half, HALF, i + 2, 0x20);
+    show_change(rt, "open part of 1 word", c, half, HALF, i + 3, 1);
+    show_change(rt, "secret part of 8193 words", c, half, HALF, i + 6, 0x20);
+    show_change(rt, "9 restarts", c, half, HALF, i + 11, 9);
+    show_change(rt, "8 restarts", c, half, HALF, i + 11, 8);
 }
 
 // Another byte behind the words, where the parts have 8 and 4.
@@ -413,18 +343,18 @@ fn show_bytes(rt: &impl Print, c: Case, half: &mut [u8], i: usize)
     requires { (i ≤ 4) × (length half.old ≡ 65584) }
     ensures { length half.new ≡ 65584 }
 {
-    show_change(rt, b"a byte of the previous tag", c, half, HALF, i + 12, 0);
-    show_change(rt, b"a byte of the open part", c, half, HALF, i + 28, 0);
+    show_change(rt, "a byte of the previous tag", c, half, HALF, i + 12, 0);
+    show_change(rt, "a byte of the open part", c, half, HALF, i + 28, 0);
     show_change(
         rt,
-        b"a byte of the sealed secret part",
+        "a byte of the sealed secret part",
         c,
         half,
         HALF,
         i + 36,
         0,
     );
-    show_change(rt, b"a byte of the tag", c, half, HALF, i + 55, 0);
+    show_change(rt, "a byte of the tag", c, half, HALF, i + 55, 0);
 }
 
 // Shorter halves.
@@ -432,10 +362,10 @@ fn show_ends(rt: &impl Print, c: Case, half: &mut [u8], i: usize)
     requires { (i ≤ 4) × (length half.old ≡ 65584) }
     ensures { length half.new ≡ 65584 }
 {
-    show_change(rt, b"a half that ends with it", c, half, i + 56, i, 0x40);
+    show_change(rt, "a half that ends with it", c, half, i + 56, i, 0x40);
     show_change(
         rt,
-        b"a half that ends 4 bytes earlier",
+        "a half that ends 4 bytes earlier",
         c,
         half,
         i + 52,
@@ -461,11 +391,11 @@ fn show_longer(rt: &impl Print, short: bool) {
     stage(c, &mut half);
     let _ = rt.write_all(b"the longer head, ");
     print_key(rt, short);
-    show_change(rt, b"as it was", c, &mut half, HALF, 0, 0x00);
-    show_change(rt, b"packet number of kind 1", c, &mut half, HALF, 0, 0x40);
-    show_change(rt, b"packet number of kind 2", c, &mut half, HALF, 0, 0x80);
-    show_change(rt, b"packet number of kind 3", c, &mut half, HALF, 0, 0xC0);
-    show_change(rt, b"packet number 6", c, &mut half, HALF, 3, 6);
+    show_change(rt, "as it was", c, &mut half, HALF, 0, 0x00);
+    show_change(rt, "packet number of kind 1", c, &mut half, HALF, 0, 0x40);
+    show_change(rt, "packet number of kind 2", c, &mut half, HALF, 0, 0x80);
+    show_change(rt, "packet number of kind 3", c, &mut half, HALF, 0, 0xC0);
+    show_change(rt, "packet number 6", c, &mut half, HALF, 3, 6);
     show_changes(rt, c, &mut half, 4);
 }
 
@@ -476,13 +406,13 @@ fn show_older(rt: &(impl Input + Print)) {
     read_full(&mut rt.reader(), &mut half);
     let _ = rt.write_all(b"the older head, ");
     print_key(rt, false);
-    show_change(rt, b"as it was", c, &mut half, HALF, 0, 0x40);
+    show_change(rt, "as it was", c, &mut half, HALF, 0, 0x40);
     show_changes(rt, c, &mut half, 0);
 }
 
 fn main(rt: HostRuntime) {
-    show_all(&rt);
-    show_all_readings(&rt);
+    for_each_case(&rt, |rt, c| show(rt, c));
+    for_each_case(&rt, |rt, c| show_reading(rt, c));
     show_longer(&rt, false);
     show_longer(&rt, true);
     show_older(&rt);

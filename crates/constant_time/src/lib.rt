@@ -7,23 +7,33 @@ mod variable_time;
 ghost use Rattle.std.specs.Prelude.{◌≡◌, length};
 ghost use Rattle.octets.specs.Octets.{number, same};
 ghost use Rattle.ghash.specs.Ghash.{◌•◌};
-ghost use Rattle.ghash.specs.Steps.{words};
+ghost use Rattle.ghash.specs.Steps.{words, value};
 ghost use Rattle.constant_time.specs.Calls.{hashes, hash_call};
 
-use ghash::blocks::block_at;
-use ghash::field::{product, steps};
+use ghash::blocks::block_of;
+use ghash::field::{Block, product, steps};
 use ghash::ghash;
 use octets::limits::TEXT_LIMIT;
 use octets::same;
 pub use variable_time::{variable_time_halve, variable_time_same};
+
+// The block that s begins with; bytes that are not there count as 0.
+fn first_block(s: &[u8]) -> Block
+    ensures { value result ≡ number s.now 0 16 }
+{
+    if s.len() > 16 {
+        return block_of(&s[..16]);
+    }
+    block_of(s)
+}
 
 // The product of the blocks that x and h begin with, as two words; bytes that are not there count as 0.
 #[unsafe(no_mangle)]
 pub extern "C" fn constant_time_product(x: &[u8], h: &[u8], hi: &mut u64, lo: &mut u64)
     ensures { words hi.new lo.new ≡ number x.now 0 16 • number h.now 0 16 }
 {
-    let t = steps(block_at(h, 0));
-    let p = product(block_at(x, 0), &t);
+    let t = steps(first_block(h));
+    let p = product(first_block(x), &t);
     *hi = p.hi;
     *lo = p.lo;
 }
@@ -41,7 +51,7 @@ pub extern "C" fn constant_time_ghash(
     ensures { (result ≡ hashes (length aad.now) (length cipher.now)) × (words hi.new lo.new ≡ hash_call h.now aad.now cipher.now (words hi.old lo.old)) }
 {
     if (aad.len() <= TEXT_LIMIT) & (cipher.len() <= TEXT_LIMIT) {
-        let t = steps(block_at(h, 0));
+        let t = steps(first_block(h));
         let y = ghash(&t, aad, cipher);
         *hi = y.hi;
         *lo = y.lo;

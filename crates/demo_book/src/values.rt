@@ -1,5 +1,5 @@
 // The unit's sizes, its key and what its saves hold: texts that a hex viewer shows where they are not sealed.
-use octets::copy;
+use octets::limits::{NONCE_LENGTH, SLOT_LENGTH};
 
 pub const PAGES: usize = 3;
 
@@ -11,26 +11,21 @@ pub const PART: usize = 8;
 pub const HALF: usize = 64;
 
 pub fn key() -> [u8; 32] {
-    let mut text = [0u8; 32];
-    copy(b"the device key of this demo unit", &mut text);
-    text
+    *b"the device key of this demo unit"
 }
 
 pub fn starting_tag() -> [u8; 16] {
-    let mut text = [0u8; 16];
-    copy(b"the starting tag", &mut text);
-    text
+    *b"the starting tag"
 }
 
 // The last decimal digit of n.
 fn digit(n: usize) -> u8 {
-    0x30 + (n % 10) as u8
+    b'0' + (n % 10) as u8
 }
 
 // The nonce of start n, which has at most three digits.
 pub fn nonce(n: usize) -> [u8; 12] {
-    let mut text = [0u8; 12];
-    copy(b"nonce no.", &mut text);
+    let mut text = *b"nonce no.000";
     text[9] = digit(n / 100);
     text[10] = digit(n / 10);
     text[11] = digit(n);
@@ -39,25 +34,23 @@ pub fn nonce(n: usize) -> [u8; 12] {
 
 // The open part of save n.
 pub fn open_text(n: usize) -> [u8; 8] {
-    let mut text = [0u8; 8];
-    copy(b"volume ", &mut text);
+    let mut text = *b"volume 0";
     text[7] = digit(n);
     text
 }
 
 // The secret part of save n, which has at most two digits.
 pub fn secret_text(n: usize) -> [u8; 8] {
-    let mut text = [0u8; 8];
-    copy(b"timer ", &mut text);
+    let mut text = *b"timer 00";
     text[6] = digit(n / 10);
     text[7] = digit(n);
     text
 }
 
 // The record of a nonce and a half (document 01, "The nonce ring").
-pub fn record(nonce: [u8; 12], half: usize) -> [u8; 16] {
-    let mut bytes = [0u8; 16];
-    copy(&nonce, &mut bytes);
+pub fn record(nonce: [u8; NONCE_LENGTH], half: usize) -> [u8; SLOT_LENGTH] {
+    let mut bytes = [0u8; SLOT_LENGTH];
+    bytes[..NONCE_LENGTH].copy_from_slice(&nonce);
     bytes[12] = 0x40;
     bytes[15] = (half % 2) as u8;
     bytes
@@ -65,10 +58,5 @@ pub fn record(nonce: [u8; 12], half: usize) -> [u8; 16] {
 
 // The packet number that save n has last heard: its own number, but from save 42 on only repeats of packet 41.
 pub fn packet(n: usize) -> u8 {
-    if n < 42 { n as u8 } else { 41 }
-}
-
-// One more, for counters that stay far below the bound.
-pub fn one_more(n: usize) -> usize {
-    if n < 1_000_000 { n + 1 } else { n }
+    n.min(41) as u8
 }

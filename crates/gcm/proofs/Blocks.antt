@@ -1,5 +1,5 @@
 -- Laws of counter blocks, and of the loop that writes block by block. Assumes nothing.
-use Rattle.std.proofs.Common.{◌≡◌, ℕ, ◌+◌, ◌-◌, ◌*◌, ◌%◌, ◌^◌, ◌<◌, ◌≤◌, min, Bool, true, false, ltb, List, ◌++◌, length, take, drop, sym, refl, ap, ◌∙◌, ap₂, append_assoc, append-nil, add-zero, add-one, arith, length-append, length-drop, drop_of_length-le, take_all, drop-drop, take_at, ltb-false, ltb-true}
+use Rattle.std.proofs.Common.{◌≡◌, ℕ, ◌+◌, ◌-◌, ◌*◌, ◌%◌, ◌^◌, ◌<◌, ◌≤◌, min, Bool, true, false, ltb, List, ◌++◌, length, take, drop, sym, refl, ap, ◌∙◌, ap₂, append_assoc, append-nil, add-zero, add-one, arith, length-append, length-drop, drop_of_length-le, take_all, drop-drop, take_at, drop_at, ltb-false, ltb-true}
 use borrow.Rule.Slice.PartMut.{put_mid}
 use lib.Seq.{drop-append-add, take-append_seam}
 use Rattle.octets.specs.Octets.{part, put, bytes}
@@ -50,6 +50,22 @@ cut_block X at end h e = go (ltb (at + 16) (length X)) refl
     go false l =
         let short : length X ≤ at + 16 = ltb-false (at + 16) (length X) l in
         take_all (end - at) (drop at X) (rw length-drop (omega arith)) ∙ sym (take_all 16 (drop at X) (rw length-drop (omega arith)))
+
+-- what chunks of 16 gives next, of the text from block i on, and what it leaves
+pub next_block : (X rest b r : List ℕ) (i : ℕ) → rest ≡ drop (min (16 * i) (length X)) X → rest ≡ b ++ r → length b ≡ min 16 (length rest) → 0 < length rest
+    → (16 * i < length X) × (b ≡ part X (16 * i) 16) × (r ≡ drop (min (16 * (i + 1)) (length X)) X)
+next_block X rest b r i h e long some =
+    let at = min (16 * i) (length X) in
+    let left : length rest ≡ length X - at = ap length h ∙ length-drop at X in
+    let below : 16 * i < length X = omega arith in
+    let here : at ≡ 16 * i = omega arith in
+    let end : at + length b ≡ min (at + 16) (length X) = omega arith in
+    let cut : length b ≡ at + length b - at = omega arith in
+    let later : at + length b ≡ min (16 * (i + 1)) (length X) = omega arith in (
+      below,
+      sym (take_at b r (length b) refl) ∙ ap (take (length b)) (sym e ∙ h) ∙ ap (λ (n : ℕ). take n (drop at X)) cut ∙ cut_block X at (at + length b) (omega arith) end ∙ ap (λ (n : ℕ). part X n 16) here,
+      sym (drop_at b r (length b) refl) ∙ ap (drop (length b)) (sym e ∙ h) ∙ drop-drop (length b) at X ∙ ap (λ (n : ℕ). drop n X) later,
+    )
 
 -- bytes put behind those that were put at the front
 put_on : (d A B : List ℕ) (n : ℕ) → n ≡ length A → length A + length B ≤ length d → put (put d 0 A) n B ≡ put d 0 (A ++ B)

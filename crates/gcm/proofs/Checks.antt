@@ -1,10 +1,10 @@
 -- What the stops of `seal` and `open` say of the lengths, and how they are tried one after the other. Assumes nothing.
-use Rattle.std.proofs.Common.{◌≡◌, ℕ, ◌≤◌, Bool, true, false, not, ◌||◌, eqb, ltb, List, [], ◌∷◌, length, refl, ap, ◌∙◌, arith, ltb-false, eqb-true}
+use Rattle.std.proofs.Common.{◌≡◌, ℕ, Bool, true, false, not, ◌||◌, eqb, ltb, List, [], ◌∷◌, length, refl, ap, ◌∙◌, arith, ltb-false, eqb-true}
 use mathlib.Core.Option.{Option, none}
 use Rattle.octets.specs.Limits.{key_lengths, nonce_length, text_limit}
 use Rattle.stops.specs.Stops.{first_of, then_stop}
 use Rattle.stops.proofs.Laws.{tried, tried_first, first_append, passes, neither}
-use Rattle.gcm.specs.Calls.{KeyLength, key_wrong, nonce_wrong, tag_wrong, buffers_wrong, seal_stop, open_length_rows, tag_row, open_length_stop, open_stop}
+use Rattle.gcm.specs.Calls.{KeyLength, key_wrong, nonce_wrong, tag_wrong, buffers_wrong, Sizes, seal_stop, open_length_rows, tag_row, open_length_stop, open_stop}
 use Rattle.gcm.proofs.Keys.{whole_key}
 
 -- two conditions tried one after the other
@@ -16,10 +16,7 @@ two_tried m n a b ho hp = hp ∙ ap (λ (q : Option ℕ). then_stop q n b) ho �
 pub record Fit (key nonce aad text out : ℕ) : Type 0 where
   pub key_taken : key_wrong key_lengths key ≡ false
   pub key_fits : KeyLength key
-  pub nonce_fits : nonce ≡ nonce_length
-  pub aad_fits : aad ≤ text_limit
-  pub text_fits : text ≤ text_limit
-  pub out_holds : text ≤ out
+  pub sizes : Sizes nonce aad text out
 
 no_not : (b : Bool) → not b ≡ false → b ≡ true
 no_not true e = refl
@@ -32,10 +29,12 @@ fitting key nonce aad text out k n b =
     record {
       key_taken = k;
       key_fits = whole_key key k;
-      nonce_fits = eqb-true nonce nonce_length (no_not (eqb nonce nonce_length) n);
-      aad_fits = ltb-false text_limit aad first.0;
-      text_fits = ltb-false text_limit text first.1;
-      out_holds = ltb-false out text last.1;
+      sizes = record {
+        nonce_fits = eqb-true nonce nonce_length (no_not (eqb nonce nonce_length) n);
+        aad_fits = ltb-false text_limit aad first.0;
+        text_fits = ltb-false text_limit text first.1;
+        out_holds = ltb-false out text last.1;
+      };
     }
 
 pub seal_fits : (key nonce aad text out : ℕ) → seal_stop key nonce aad text out ≡ none → Fit key nonce aad text out

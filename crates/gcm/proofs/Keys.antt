@@ -37,26 +37,23 @@ key_exactly n = (one_of_two n (eqb n short_key) (eqb n long_key) refl refl, ⊎_
 pub whole_key : (n : ℕ) → key_wrong key_lengths n ≡ false → KeyLength n
 whole_key n e = (key_length_exactly n).1 ((key_exactly n).0 e)
 
-module _ (key w : List ℕ) (rounds : ℕ) (long : KeyLength (length key)) (made : w ≡ round_keys key) (many : rounds ≡ length key / 4 + 6) where
-  pub under : cipher rounds w ≡ aes key
-  under = λ i block. (ap₂ (λ (n : ℕ) (x : List ℕ). cipher n x block) many made ∙ aes_is key block long) i
+pub under : (key w : List ℕ) (rounds : ℕ) → KeyLength (length key) → w ≡ round_keys key → rounds ≡ length key / 4 + 6 → cipher rounds w ≡ aes key
+under key w rounds long made many = λ i block. (ap₂ (λ (n : ℕ) (x : List ℕ). cipher n x block) many made ∙ aes_is key block long) i
 
-  pub text_is : (nonce text : List ℕ) → AE_text (cipher rounds w) nonce text ≡ encrypted key nonce text
-  unfolding encrypted
-  text_is nonce text = ap (λ (CIPH : List ℕ → List ℕ). AE_text CIPH nonce text) under
-
-  pub tag_is : (nonce aad text : List ℕ) → AE_tag (cipher rounds w) nonce aad text ≡ tag key nonce aad text
+module _ (key : List ℕ) (CIPH : List ℕ → List ℕ) (e : CIPH ≡ aes key) where
+  pub tag_is : (nonce aad text : List ℕ) → AE_tag CIPH nonce aad text ≡ tag key nonce aad text
   unfolding tag
-  tag_is nonce aad text = ap (λ (CIPH : List ℕ → List ℕ). AE_tag CIPH nonce aad text) under
+  tag_is nonce aad text = ap (λ (CIPH : List ℕ → List ℕ). AE_tag CIPH nonce aad text) e
 
   -- the text written to the front of d, and the tag of what was written
-  pub text_written : (nonce text d t : List ℕ) → t ≡ put d 0 (AE_text (cipher rounds w) nonce text) → t ≡ put d 0 (encrypted key nonce text)
-  text_written nonce text d t e = e ∙ ap (put d 0) (text_is nonce text)
+  pub text_written : (nonce text d t : List ℕ) → t ≡ put d 0 (AE_text CIPH nonce text) → t ≡ put d 0 (encrypted key nonce text)
+  unfolding encrypted
+  text_written nonce text d t h = h ∙ ap (λ (CIPH : List ℕ → List ℕ). put d 0 (AE_text CIPH nonce text)) e
 
-  pub tag_written : (nonce aad text d t T : List ℕ) → t ≡ put d 0 (AE_text (cipher rounds w) nonce text)
-      → T ≡ AE_tag (cipher rounds w) nonce aad (take (length text) t) → T ≡ tag key nonce aad (encrypted key nonce text)
-  tag_written nonce aad text d t T e h =
+  pub tag_written : (nonce aad text d t T : List ℕ) → t ≡ put d 0 (AE_text CIPH nonce text)
+      → T ≡ AE_tag CIPH nonce aad (take (length text) t) → T ≡ tag key nonce aad (encrypted key nonce text)
+  tag_written nonce aad text d t T h k =
       let C : List ℕ = encrypted key nonce text in
       let front : take (length text) t ≡ C =
-      ap (take (length text)) (text_written nonce text d t e ∙ put_front d C) ∙ take_at C (drop (length C) d) (length text) (length_encrypted key nonce text) in
-      h ∙ ap (AE_tag (cipher rounds w) nonce aad) front ∙ tag_is nonce aad C
+      ap (take (length text)) (text_written nonce text d t h ∙ put_front d C) ∙ take_at C (drop (length C) d) (length text) (length_encrypted key nonce text) in
+      k ∙ ap (AE_tag CIPH nonce aad) front ∙ tag_is nonce aad C

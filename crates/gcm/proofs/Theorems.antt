@@ -1,5 +1,5 @@
 -- What the calls promise together. Assumes nothing.
-use Rattle.std.proofs.Common.{◌≡◌, ℕ, ◌≤◌, Bool, true, false, cond, List, length, take, drop, sym, refl, ap, ◌∙◌, inl, inr, arith, take_at, le-ltb, eq-eqb}
+use Rattle.std.proofs.Common.{◌≡◌, ℕ, ◌≤◌, Bool, true, false, cond, List, length, take, drop, sym, refl, ap, ◌∙◌, arith, take_at, le-ltb, eq-eqb}
 use mathlib.Core.Option.{Option, none, some}
 use Rattle.octets.specs.Limits.{tag_length}
 use Rattle.octets.specs.Octets.{put, same}
@@ -8,11 +8,11 @@ use Rattle.stops.specs.Stops.{first_of}
 use Rattle.aes.specs.Cipher.{aes}
 use Rattle.aes.proofs.Whole.{aes_128, aes_256}
 use Rattle.gcm.specs.Gcm.{GCM-AE, GCM-AD, encrypted, tag}
-use Rattle.gcm.specs.Calls.{seal_stop, sealing_at, sealing, open_length_stop, Opening, opening}
+use Rattle.gcm.specs.Calls.{seal_stop, sealing_at, sealing, open_length_stop, Opening, opening_at, opening}
 use Rattle.gcm.specs.Standard.{sealed_by, answered, opened_by, ByLength}
 use Rattle.gcm.proofs.Checks.{Fit, seal_fits}
 use Rattle.gcm.proofs.Laws.{encrypted_twice, length_encrypted, length_tag}
-use Rattle.gcm.proofs.Outcomes.{opened}
+use Rattle.gcm.proofs.Outcomes as Outcomes
 
 -- a call whose lengths pass answers what GCM-AE gives
 pub sealing_is : (key nonce aad text out : List ℕ) → seal_stop (length key) (length nonce) (length aad) (length text) (length out) ≡ none
@@ -30,8 +30,9 @@ sealing_by_length key nonce aad text out e = by_length key _ (sealed_by nonce aa
 
 module _ (key nonce aad text given out : List ℕ) (fits : open_length_stop (length key) (length nonce) (length aad) (length text) (length given) (length out) ≡ none) where
   judged : (b : Bool) → same given (tag key nonce aad text) ≡ b → opening key nonce aad text given out ≡ answered (cond b (some (encrypted key nonce text)) none) out
-  judged true e = sym (opened key nonce aad text given out true none _ fits (sym e) refl (inl (refl, refl)))
-  judged false e = sym (opened key nonce aad text given out false (some 12) _ fits (sym e) refl (inr (refl, refl)))
+  unfolding opening_at
+  judged true e = sym (Outcomes.judged key nonce aad text given out true fits (sym e))
+  judged false e = sym (Outcomes.judged key nonce aad text given out false fits (sym e))
 
   -- a call whose lengths pass answers what GCM-AD gives
   pub opening_is : opening key nonce aad text given out ≡ opened_by nonce aad text given out (aes key)
@@ -57,7 +58,7 @@ module _ (key nonce aad text given out : List ℕ) (fits : open_length_stop (len
 fitting : (key nonce aad text given out : ℕ) → Fit key nonce aad text out → given ≡ tag_length → open_length_stop key nonce aad text given out ≡ none
 unfolding open_length_stop first_of
 fitting key nonce aad text given out f e =
-    simp (f.key_taken, eq-eqb _ _ f.nonce_fits, eq-eqb _ _ e, le-ltb _ _ f.aad_fits, le-ltb _ _ f.text_fits, le-ltb _ _ f.out_holds)
+    simp (f.key_taken, eq-eqb _ _ f.sizes.nonce_fits, eq-eqb _ _ e, le-ltb _ _ f.sizes.aad_fits, le-ltb _ _ f.sizes.text_fits, le-ltb _ _ f.sizes.out_holds)
 
 -- what a call sealed, opened with the tag that it answered, is the text again, in any output that holds it
 pub sealed_opened : (key nonce aad text out back : List ℕ) → seal_stop (length key) (length nonce) (length aad) (length text) (length out) ≡ none → length text ≤ length back
@@ -69,7 +70,7 @@ sealed_opened key nonce aad text out back e room =
     let long : length C ≡ length text = length_encrypted key nonce text in
     let f = seal_fits (length key) (length nonce) (length aad) (length text) (length out) e in
     let f' : Fit (length key) (length nonce) (length aad) (length C) (length back) =
-    record { key_taken = f.key_taken; key_fits = f.key_fits; nonce_fits = f.nonce_fits; aad_fits = f.aad_fits; text_fits = omega arith; out_holds = omega arith } in
+    record { key_taken = f.key_taken; key_fits = f.key_fits; sizes = record { nonce_fits = f.sizes.nonce_fits; aad_fits = f.sizes.aad_fits; text_fits = omega (arith, f.sizes.text_fits); out_holds = omega arith } } in
     let front : take (length text) (put out 0 C) ≡ C = ap (take (length text)) (put_front out C) ∙ take_at C (drop (length C) out) (length text) long in
     ap (λ (o : Option ℕ). let s = sealing_at o key nonce aad text out in opening key nonce aad (take (length text) s.out) s.tag back) e
     ∙ ap (λ (c : List ℕ). opening key nonce aad c T back) front

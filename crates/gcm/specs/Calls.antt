@@ -1,14 +1,14 @@
 -- Sealing and opening, offered alone: document 01, "The cipher", and of its stops the rows 3, 4 and 12; and document 02, A.8.
-use Rattle.std.specs.Prelude.{ℕ, Bool, true, not, ◌&&◌, ◌||◌, List, [], ◌∷◌, ◌++◌, length, replicate, ◌==◌, nat_lt}
+use Rattle.std.specs.Prelude.{◌≡◌, ℕ, ◌≤◌, Result, Bool, true, not, ◌&&◌, ◌||◌, List, [], ◌∷◌, ◌++◌, length, replicate, ◌==◌, nat_lt}
+use Rattle.std.specs.Result.{result_unwrap_or}
 use Rattle.std.proofs.Math.Option.{Option, none, some}
 use Rattle.octets.specs.Limits.{key_lengths, nonce_length, tag_length, text_limit}
 use Rattle.octets.specs.Octets.{put, same}
 use Rattle.stops.specs.Stops.{first_of}
 use Rattle.stops.specs.View.{check_number}
-use Rattle.stops.specs.declared.Check.{Check}
+use Rattle.stops.specs.declared.Stop.{Stop}
 pub use Rattle.aes_key.specs.Key.{KeyLength}
 use Rattle.gcm.specs.Gcm.{encrypted, tag}
-use Rattle.gcm.specs.declared.Sealed.{Sealed}
 
 -- conditions on lengths in bytes: that of a key is none of those which are taken
 unfoldable pub key_wrong : (taken : List ℕ) → ℕ → Bool
@@ -24,6 +24,13 @@ tag_wrong n = not (n == tag_length)
 -- a text or associated data above the limit, or an output shorter than the text
 abbrev pub buffers_wrong : (aad text out : ℕ) → Bool
 buffers_wrong aad text out = nat_lt text_limit aad || nat_lt text_limit text || nat_lt out text
+
+-- lengths that pass, the key's apart
+pub record Sizes (nonce aad text out : ℕ) : Type 0 where
+  pub nonce_fits : nonce ≡ nonce_length
+  pub aad_fits : aad ≤ text_limit
+  pub text_fits : text ≤ text_limit
+  pub out_holds : text ≤ out
 
 -- ---- sealing
 
@@ -78,8 +85,8 @@ opening key nonce aad text given out = opening_at (open_stop key nonce aad text 
 
 -- ---- the code's answers, with what it left in the output
 
-abbrev pub sealed_as : Sealed → List ℕ → Sealing
-sealed_as r out = record { stop = check_number r.check; tag = r.tag; out = out }
+abbrev pub sealed_as : Result (List ℕ) Stop → List ℕ → Sealing
+sealed_as r out = record { stop = check_number r; tag = result_unwrap_or r (replicate tag_length 0); out = out }
 
-abbrev pub opened_as : Check → List ℕ → Opening
+abbrev pub opened_as : Result Unit Stop → List ℕ → Opening
 opened_as r out = record { stop = check_number r; out = out }

@@ -3,30 +3,22 @@
 #![tactic(auto)]
 
 pub mod counter_mode;
+pub mod prepared;
 pub mod tag;
 
-ghost use Rattle.std.specs.Prelude.{◌≡◌, length};
-ghost use Rattle.std.proofs.Math.Option.{none};
+ghost use Rattle.std.specs.Prelude.{◌≡◌, Ok, length};
 ghost use Rattle.octets.specs.Limits.{key_lengths};
-ghost use Rattle.octets.specs.Octets.{put};
 ghost use Rattle.stops.specs.View.{check_number};
-ghost use Rattle.gcm.specs.Gcm.{encrypted, tag};
-ghost use Rattle.gcm.specs.Calls.{key_wrong, nonce_wrong, tag_wrong, buffers_wrong, seal_stop, sealing, open_length_stop, opening, sealed_as, opened_as};
+ghost use Rattle.aes.specs.Cipher.{cipher};
+ghost use Rattle.gcm.specs.Standard.{sealed_by, opened_by};
+ghost use Rattle.gcm.specs.Calls.{key_wrong, nonce_wrong, tag_wrong, buffers_wrong, Sizes, seal_stop, sealing, open_length_stop, opening, sealed_as, opened_as};
 
-use aes::table::round_table;
-use aes::{expand_key, rounds};
 use counter_mode::encrypt;
 use octets::limits::{LONG_KEY, NONCE_LENGTH, SHORT_KEY, TAG_LENGTH, TEXT_LIMIT};
-use octets::{fill, same};
-use stops::{Check, Stop};
-use tag::{hash_steps, tag_of, wipe_steps};
-
-// What a sealing answers: its tag, or why it stopped, and then sixteen zeros.
-#[derive(Clone, Copy)]
-pub struct Sealed {
-    pub check: Check,
-    pub tag: [u8; 16],
-}
+use octets::same;
+use prepared::{Prepared, with_key};
+use stops::{Stop, StopIf};
+use tag::tag_of;
 
 // Whether a key of n bytes is refused.
 pub fn key_wrong(n: usize) -> bool
@@ -57,10 +49,10 @@ fn buffers_wrong(aad: usize, text: usize, out: usize) -> bool
 }
 
 // The checks of a sealing.
-fn seal_check(key: usize, nonce: usize, aad: usize, text: usize, out: usize) -> Check
+fn seal_check(key: usize, nonce: usize, aad: usize, text: usize, out: usize) -> Result<(), Stop>
     ensures { check_number result ≡ seal_stop key nonce aad text out }
 {
-    Check::Pass
+    Ok(())
         .stop_if(key_wrong(key) | nonce_wrong(nonce), Stop::KeyNonceTagSize)
         .stop_if(buffers_wrong(aad, text, out), Stop::BufferSize)
 }
@@ -73,10 +65,10 @@ fn open_length_check(
     text: usize,
     given: usize,
     out: usize,
-) -> Check
+) -> Result<(), Stop>
     ensures { check_number result ≡ open_length_stop key nonce aad text given out }
 {
-    Check::Pass
+    Ok(())
         .stop_if(
             key_wrong(key) | nonce_wrong(nonce) | tag_wrong(given),
             Stop::KeyNonceTagSize,
@@ -84,71 +76,56 @@ fn open_length_check(
         .stop_if(buffers_wrong(aad, text, out), Stop::BufferSize)
 }
 
-// Seals where the lengths are right. Round keys and steps are overwritten in the end, as far as the compiler keeps it.
-fn seal_checked(key: &[u8], nonce: &[u8], aad: &[u8], text: &[u8], out: &mut [u8]) -> [u8; 16]
-    requires { seal_stop (length key.now) (length nonce.now) (length aad.now) (length text.now) (length out.old) ≡ none }
-    ensures { (result ≡ tag key.now nonce.now aad.now (encrypted key.now nonce.now text.now)) × (out.new ≡ put out.old 0 (encrypted key.now nonce.now text.now)) }
+// Seals where the lengths are right.
+fn seal_prepared(
+    prepared: &Prepared<'_>,
+    nonce: &[u8],
+    aad: &[u8],
+    text: &[u8],
+    out: &mut [u8],
+) -> [u8; 16]
+    requires { Sizes (length nonce.now) (length aad.now) (length text.now) (length out.old) }
+    ensures { sealed_as (Ok result) out.new ≡ sealed_by nonce.now aad.now text.now out.old (cipher prepared.now.schedule.rounds prepared.now.schedule.keys.now) }
 {
-    let rounds = rounds(key.len());
-    let table = round_table();
-    let mut keys = expand_key(key);
-    let mut steps = hash_steps(&table, &keys, rounds);
-    encrypt(&table, &keys, rounds, nonce, text, out);
-    let n = text.len();
-    let tag = tag_of(&table, &keys, rounds, &steps, nonce, aad, &out[..n]);
-    fill(&mut keys, 0);
-    wipe_steps(&mut steps);
-    tag
+    encrypt(&prepared.schedule, nonce, text, out);
+    tag_of(prepared, nonce, aad, &out[..text.len()])
 }
 
 // Writes the encrypted text to the front of out, and answers the tag of it and of the associated data. On a stop out stays as it was.
-pub fn seal(key: &[u8], nonce: &[u8], aad: &[u8], text: &[u8], out: &mut [u8]) -> Sealed
+pub fn seal(
+    key: &[u8],
+    nonce: &[u8],
+    aad: &[u8],
+    text: &[u8],
+    out: &mut [u8],
+) -> Result<[u8; 16], Stop>
     ensures { sealed_as result out.new ≡ sealing key.now nonce.now aad.now text.now out.old }
 {
-    let check = seal_check(key.len(), nonce.len(), aad.len(), text.len(), out.len());
-    match check {
-        Check::Stopped(stop) => {
-            let zeros = [0u8; 16];
-            Sealed {
-                check: Check::Stopped(stop),
-                tag: zeros,
-            }
-        }
-        Check::Pass => {
-            let tag = seal_checked(key, nonce, aad, text, out);
-            Sealed {
-                check: Check::Pass,
-                tag,
-            }
-        }
-    }
+    seal_check(key.len(), nonce.len(), aad.len(), text.len(), out.len())?;
+    let mut sealing = |prepared: &Prepared<'_>| -> [u8; 16]
+        requires { Sizes (length nonce.now) (length aad.now) (length text.now) (length out.now) }
+        ensures { sealed_as (Ok result) out.exit.now ≡ sealed_by nonce.entry.now aad.entry.now text.entry.now out.entry.now (cipher prepared.now.schedule.rounds prepared.now.schedule.keys.now) }
+    { seal_prepared(prepared, nonce, aad, text, out) };
+    Ok(with_key(key, &mut sealing))
 }
 
-// Opens where the lengths are right. The tag is compared whole before anything is written. Round keys and steps are overwritten as in
-// seal_checked.
-fn open_checked(
-    key: &[u8],
+// Opens where the lengths are right. The tag is compared whole before anything is written.
+fn open_prepared(
+    prepared: &Prepared<'_>,
     nonce: &[u8],
     aad: &[u8],
     text: &[u8],
     given: &[u8],
     out: &mut [u8],
-) -> Check
-    requires { open_length_stop (length key.now) (length nonce.now) (length aad.now) (length text.now) (length given.now) (length out.old) ≡ none }
-    ensures { opened_as result out.new ≡ opening key.now nonce.now aad.now text.now given.now out.old }
+) -> Result<(), Stop>
+    requires { Sizes (length nonce.now) (length aad.now) (length text.now) (length out.old) }
+    ensures { opened_as result out.new ≡ opened_by nonce.now aad.now text.now given.now out.old (cipher prepared.now.schedule.rounds prepared.now.schedule.keys.now) }
 {
-    let rounds = rounds(key.len());
-    let table = round_table();
-    let mut keys = expand_key(key);
-    let mut steps = hash_steps(&table, &keys, rounds);
-    let right = tag_of(&table, &keys, rounds, &steps, nonce, aad, text);
+    let right = tag_of(prepared, nonce, aad, text);
     let good = same(given, &right);
-    if good {
-        encrypt(&table, &keys, rounds, nonce, text, out);
-    }
-    fill(&mut keys, 0);
-    wipe_steps(&mut steps);
-    Check::Pass.stop_if(!good, Stop::TagDiffers)
+    Ok(()).stop_if(!good, Stop::TagDiffers)?;
+    encrypt(&prepared.schedule, nonce, text, out);
+    Ok(())
 }
 
 // Writes the decrypted text to the front of out, if the given tag is that of the text and of the associated data. On a stop out stays as
@@ -160,19 +137,20 @@ pub fn open(
     text: &[u8],
     given: &[u8],
     out: &mut [u8],
-) -> Check
+) -> Result<(), Stop>
     ensures { opened_as result out.new ≡ opening key.now nonce.now aad.now text.now given.now out.old }
 {
-    let check = open_length_check(
+    open_length_check(
         key.len(),
         nonce.len(),
         aad.len(),
         text.len(),
         given.len(),
         out.len(),
-    );
-    match check {
-        Check::Stopped(stop) => Check::Stopped(stop),
-        Check::Pass => open_checked(key, nonce, aad, text, given, out),
-    }
+    )?;
+    let mut opening = |prepared: &Prepared<'_>| -> Result<(), Stop>
+        requires { Sizes (length nonce.now) (length aad.now) (length text.now) (length out.now) }
+        ensures { opened_as result out.exit.now ≡ opened_by nonce.entry.now aad.entry.now text.entry.now given.entry.now out.entry.now (cipher prepared.now.schedule.rounds prepared.now.schedule.keys.now) }
+    { open_prepared(prepared, nonce, aad, text, given, out) };
+    with_key(key, &mut opening)
 }

@@ -1,10 +1,7 @@
 -- Laws of GHASH: zeros behind the end change no block, and a string in two parts is hashed part by part. Assumes nothing.
-use mathlib.Core.Path.{◌≡◌, refl, sym, ap, ap₂, ◌∙◌}
-use mathlib.Core.List.{List, [], ◌∷◌, ◌++◌}
-use Prim.Native.Nat.{ℕ, zero, suc, ◌+◌, ◌-◌, ◌*◌, ◌/◌, ◌^◌, ◌<◌}
+use Rattle.std.proofs.Common.{◌≡◌, refl, sym, ap, ap₂, ◌∙◌, List, [], ◌∷◌, ◌++◌, ℕ, zero, suc, ◌+◌, ◌-◌, ◌*◌, ◌/◌, ◌^◌, ◌<◌, length, min, get_or, replicate, length-append, append-nil, arith}
 use native.Mathlib.Nat.{add-zero, add-suc}
-use native.Mathlib.Omega.{arith}
-use lib.ListN.{length, get_or, replicate, length-append, length-replicate, get_or-append}
+use lib.ListN.{length-replicate, get_or-append}
 use lib.Seq.{get_or-append-add}
 use lib.Bits.{bit_xor}
 use Rattle.octets.specs.Octets.{number}
@@ -14,7 +11,7 @@ use Rattle.ghash.specs.Ghash.{Yᵢ, hashed, GHASH, ◌•◌}
 use Rattle.ghash.specs.Input.{blocks, padded, lengths, hash_input}
 use Rattle.ghash.proofs.Words.{number_words}
 
-get_or_zeros : (s : List ℕ) (k i : ℕ) → get_or (s ++ replicate k 0) i 0 ≡ get_or s i 0
+pub get_or_zeros : (s : List ℕ) (k i : ℕ) → get_or (s ++ replicate k 0) i 0 ≡ get_or s i 0
 get_or_zeros [] zero i = refl
 get_or_zeros [] (suc k) zero = refl
 get_or_zeros [] (suc k) (suc i) = get_or_zeros [] k i
@@ -46,6 +43,20 @@ Y_append H y A B m (suc n) e =
     ∙ ap₂ (λ (p q : ℕ). bit_xor p q • H) (Y_append H y A B m n e)
     (number_ext (A ++ B) B (16 * (m + n)) (16 * n) 16
     (λ i l. ap (λ (k : ℕ). get_or (A ++ B) k 0) (let o : 16 * (m + n) + i ≡ length A + (16 * n + i) = omega arith in o) ∙ get_or-append-add A B (16 * n + i) 0))
+
+-- the first block, of 16 bytes or of all that there are, and those behind it
+pub Y_chunk : (H y : ℕ) (b r : List ℕ) → 0 < length (b ++ r) → length b ≡ min 16 (length (b ++ r))
+    → Yᵢ H y (b ++ r) (blocks (length (b ++ r))) ≡ Yᵢ H (bit_xor y (number b 0 16) • H) r (blocks (length r))
+unfolding Yᵢ
+Y_chunk H y b [] h m =
+    let long = length-append b [] in
+    let one : blocks (length (b ++ [])) ≡ 1 = omega arith in
+    ap₂ (Yᵢ H y) (append-nil b) one
+Y_chunk H y b (x ∷ r) h m =
+    let long = length-append b (x ∷ r) in
+    let sixteen : length b ≡ 16 = omega arith in
+    let more : blocks (length (b ++ x ∷ r)) ≡ 1 + blocks (length (x ∷ r)) = omega arith in
+    ap (Yᵢ H y (b ++ x ∷ r)) more ∙ Y_append H y b (x ∷ r) 1 (blocks (length (x ∷ r))) sixteen
 
 pub hashed_append : (H y : ℕ) (A B : List ℕ) (m : ℕ) → length A ≡ 16 * m → hashed H y (A ++ B) ≡ hashed H (hashed H y A) B
 unfolding hashed

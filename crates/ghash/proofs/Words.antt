@@ -1,15 +1,11 @@
--- Laws of a block in two words: xor, a bit times a number, the shift by one, and the bits from a place on. Assumes nothing.
-use mathlib.Core.Path.{◌≡◌, refl, sym, ap, ap₂, ◌∙◌}
-use mathlib.Core.List.{List, ◌++◌}
-use Prim.Native.Nat.{ℕ, zero, suc, ◌+◌, ◌-◌, ◌*◌, ◌/◌, ◌%◌, ◌^◌, ◌≤◌, ◌<◌}
-use native.Mathlib.Nat.{add-zero, zero-mul, one-mul, mul_assoc, mod-lt, zero-lt-suc, lt_of_lt_of_le}
-use native.Mathlib.Numerals.{add-one}
-use native.Mathlib.Omega.{arith}
+-- Laws of a block in two words: xor, a bit times a number, the shift by one, and its bytes. Assumes nothing.
+use Rattle.std.proofs.Common.{◌≡◌, refl, sym, ap, ap₂, ◌∙◌, List, ◌++◌, ℕ, zero, suc, ◌+◌, ◌-◌, ◌*◌, ◌/◌, ◌%◌, ◌^◌, ◌≤◌, ◌<◌, arith}
+use native.Mathlib.Nat.{add-zero, zero-mul, one-mul, div-one, mul_assoc, mod-lt, zero-lt-suc}
 use lib.Bits.{bit_xor, bit_or, xor_block, xor_zero_r, or_shifted}
-use lib.ListN.{get_or}
-use lib.Pow.{high, low, field, shr-shr, mod-mod-pow, pow_mono}
-use Rattle.octets.specs.Octets.{Bytes, number, bytes}
-use Rattle.octets.proofs.Numbers.{number_lt, number_split, number_left, number_right, length_bytes, number_bytes}
+use lib.Pow.{high, low, field, shr-shr, mod-mod-pow}
+use Rattle.std.specs.Int.{w128, to_be_bytes, from_be_bytes}
+use Rattle.octets.specs.Octets.{number, bytes}
+use Rattle.octets.proofs.Numbers.{number_split, number_left, number_right, length_bytes, number_bytes}
 use Rattle.ghash.specs.Steps.{words}
 use Rattle.ghash.specs.Ghash.{add_if, halved, R}
 
@@ -78,11 +74,11 @@ number_words a b ha hb =
     number_split (bytes 8 a ++ bytes 8 b) 0 8 8
     ∙ ap₂ words (number_left (bytes 8 a) (bytes 8 b) 8 (omega arith) ∙ number_bytes 8 a ha) (number_right (bytes 8 a) (bytes 8 b) 8 8 eight ∙ number_bytes 8 b hb)
 
--- a word that a loop makes of its bytes: one byte more
-pub one_byte_more : (s : List ℕ) (at k w b : ℕ) → Bytes s → k < 8 → w ≡ number s at k → b ≡ get_or s (at + k) 0
-    → bit_or (w * 256 % 2 ^ 64) b ≡ number s at (k + 1)
+-- std's bytes of a number, the most significant first, and the number of bytes
+pub high_first : (n : ℕ) → to_be_bytes w128 n ≡ bytes 16 n
+unfolding bytes
+high_first n = rw div-one refl
+
+pub number_is : (xs : List ℕ) → from_be_bytes w128 xs ≡ number xs 0 16
 unfolding number
-one_byte_more s at k w b h l hw hb =
-    let small : w < 2 ^ 56 = rw hw (lt_of_lt_of_le (number_lt s at k h) (pow_mono {i = 8 * k} {j = 56} (omega arith))) in
-    let fits : w * 256 % 2 ^ 64 ≡ w * 256 = omega arith in
-    rw (fits, or_shifted w 8 b (rw hb (h (at + k))), add-one) (cc)
+number_is xs = omega arith

@@ -1,88 +1,28 @@
 // Blocks from bytes, and the bytes of a block.
-ghost use Rattle.std.specs.Prelude.{◌≡◌, ◌+◌, ◌/◌, ◌%◌, ◌^◌, ◌<◌, ◌≤◌, length, get_or};
+ghost use Rattle.std.specs.Prelude.{◌≡◌, ◌≤◌, length};
 ghost use Rattle.octets.specs.Octets.{number, bytes};
 ghost use Rattle.ghash.specs.Steps.{value};
 
 use super::field::Block;
+use octets::copy;
 
-// A byte as a word.
-fn wide(b: u8) -> u64
-    ensures { result ≡ b }
+// The number of at most 16 bytes, with zeros behind them for those that are missing.
+pub fn block_of(s: &[u8]) -> Block
+    requires { length s.now ≤ 16 }
+    ensures { value result ≡ number s.now 0 16 }
 {
-    b as u64
-}
-
-// The number of 8 bytes of s.
-fn word_at(s: &[u8], at: usize) -> u64
-    requires { at + 8 ≤ length s.now }
-    ensures { result ≡ number s.now at 8 }
-{
-    let mut w: u64 = 0;
-    for k in 0..8usize {
-        w = (w << 8) | wide(s[at + k]);
-    }
-    w
-}
-
-// Byte i of s, and 0 past its end.
-fn padded_byte_at(s: &[u8], i: usize) -> u64
-    ensures { result ≡ get_or s.now i 0 }
-{
-    if i < s.len() { wide(s[i]) } else { 0 }
-}
-
-// The number of 8 bytes of s, with zeros for those past its end.
-fn padded_word_at(s: &[u8], at: usize) -> u64
-    requires { at + 8 < 2 ^ 64 }
-    ensures { result ≡ number s.now at 8 }
-{
-    let mut w: u64 = 0;
-    for k in 0..8usize {
-        w = (w << 8) | padded_byte_at(s, at + k);
-    }
-    w
-}
-
-// The number of 16 bytes of s, with zeros for those past its end.
-pub fn block_at(s: &[u8], at: usize) -> Block
-    requires { at + 16 < 2 ^ 64 }
-    ensures { value result ≡ number s.now at 16 }
-{
-    if at + 16 <= s.len() {
-        return Block {
-            hi: word_at(s, at),
-            lo: word_at(s, at + 8),
-        };
-    }
+    let mut bytes = [0u8; 16];
+    copy(s, &mut bytes);
+    let n = u128::from_be_bytes(bytes);
     Block {
-        hi: padded_word_at(s, at),
-        lo: padded_word_at(s, at + 8),
+        hi: (n >> 64) as u64,
+        lo: (n % 0x1_0000_0000_0000_0000) as u64,
     }
-}
-
-// A word whose low 8 bits are the bits of b from bit m on, of which the lowest is bit 0; m is a multiple of 8.
-fn bits_from(b: Block, m: u32) -> u64
-    requires { (m < 128) × (m % 8 ≡ 0) }
-    ensures { result % 256 ≡ value b / 2 ^ m % 256 }
-{
-    if m < 64 { b.lo >> m } else { b.hi >> (m - 64) }
-}
-
-// Byte k of a block.
-fn byte_of(b: Block, k: u32) -> u8
-    requires { k < 16 }
-    ensures { result ≡ get_or (bytes 16 (value b)) k 0 }
-{
-    (bits_from(b, 120 - 8 * k) % 256) as u8
 }
 
 // The bytes of a block.
 pub fn block_bytes(b: Block) -> [u8; 16]
     ensures { result ≡ bytes 16 (value b) }
 {
-    let mut t = [0u8; 16];
-    for k in 0..16usize {
-        t[k] = byte_of(b, k as u32);
-    }
-    t
+    (u128::from(b.hi) * 0x1_0000_0000_0000_0000 + u128::from(b.lo)).to_be_bytes()
 }

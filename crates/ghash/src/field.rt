@@ -1,5 +1,6 @@
 // A block of 128 bits in two words, and the product of blocks (SP 800-38D, algorithm 1). The steps V_i of the hash subkey are made once
 // per key, and each product adds up those whose bit is 1, by masks. No branch, no end of a loop and no index depends on what the blocks hold.
+// Its loops count to a constant by hand: hosts/constant_time/branches takes no other branch in this file.
 ghost use Rattle.std.specs.Prelude.{◌≡◌, ℕ, ◌+◌, ◌-◌, ◌/◌, ◌%◌, ◌*◌, ◌^◌, ◌<◌, ◌≤◌, get_or};
 ghost use Rattle.octets.specs.Octets.{◌⊕◌};
 ghost use Rattle.ghash.specs.Ghash.{add_if, bit, halved, Zᵢ, ◌•◌};

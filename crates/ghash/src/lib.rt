@@ -9,17 +9,16 @@ ghost use Rattle.ghash.specs.Ghash.{hashed, GHASH};
 ghost use Rattle.ghash.specs.Input.{padded, hash_input};
 ghost use Rattle.ghash.specs.Steps.{value, Steps};
 
-use blocks::block_at;
+use blocks::block_of;
 use field::{Block, add, product};
 
 // s, which zeros fill up to whole blocks, hashed in under the hash subkey whose steps t has, from the value y on.
 fn hash(t: &[u64; 256], y: Block, s: &[u8]) -> Block
     ensures { (H : ℕ) → Steps H t.now → value result ≡ hashed H (value y) (padded s.now) }
 {
-    let n = (s.len() + 15) / 16;
     let mut z = y;
-    for i in 0..n {
-        z = product(add(z, block_at(s, 16 * i)), t);
+    for block in s.chunks(16) {
+        z = product(add(z, block_of(block)), t);
     }
     z
 }

@@ -9,7 +9,7 @@ ghost use Rattle.hex_digits.specs.Digits.{is_digit, digit_value, digit_of, pair,
 pub fn is_digit(c: u8) -> bool
     ensures { result ≡ is_digit c }
 {
-    ((c >= 0x30) & (c <= 0x39)) | ((c >= 0x41) & (c <= 0x46)) | ((c >= 0x61) & (c <= 0x66))
+    matches!(c, b'0'..=b'9' | b'A'..=b'F' | b'a'..=b'f')
 }
 
 // The value of a digit.
@@ -40,8 +40,8 @@ pub fn decode(s: &[u8], n: usize, out: &mut [u8])
     requires { (2 * n ≤ length s.now) × (n ≤ length out.old) }
     ensures { out.new ≡ put out.old 0 (decoded s.now n) }
 {
-    for i in 0..n {
-        out[i] = pair(s, 2 * i);
+    for (i, byte) in out[..n].iter_mut().enumerate() {
+        *byte = pair(s, 2 * i);
     }
 }
 
@@ -50,8 +50,8 @@ pub fn encode(s: &[u8], out: &mut [u8], at: usize)
     requires { at + 2 * length s.now ≤ length out.old }
     ensures { out.new ≡ put out.old at (encoded s.now) }
 {
-    for i in 0..s.len() {
-        out[at + 2 * i] = digit_of(s[i] / 16);
-        out[at + 2 * i + 1] = digit_of(s[i] % 16);
+    for (i, byte) in s.iter().enumerate() {
+        out[at + 2 * i] = digit_of(*byte / 16);
+        out[at + 2 * i + 1] = digit_of(*byte % 16);
     }
 }

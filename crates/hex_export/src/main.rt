@@ -5,19 +5,15 @@
 use bench_io::{Console, read_full, refuse, write_out};
 use intel_hex::export_image;
 use octets::limits::IMAGE_LIMIT;
-use octets::part;
-use stops::Check;
 
 // The text of the longest image: 16,384 data lines of 44 bytes, 4 type 04 lines of 16, and the end line of 12.
 const TEXT_LIMIT: usize = 720_972;
 
 // Writes an image as Intel HEX.
 fn export(rt: &impl Console, image: &[u8], text: &mut [u8]) {
-    let exported = export_image(image, text);
-    let check = exported.check;
-    match check {
-        Check::Stopped(stop) => refuse(rt, stop),
-        Check::Pass => write_out(rt, part(text, 0, exported.written)),
+    match export_image(image, text) {
+        Ok(written) => write_out(rt, &text[..written]),
+        Err(stop) => refuse(rt, stop),
     }
 }
 

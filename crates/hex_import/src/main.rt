@@ -9,17 +9,15 @@ ghost use Rattle.octets.specs.Limits.{image_limit};
 use bench_io::{Console, argument_count, complain, number_argument, read_full, refuse, write_out};
 use intel_hex::import_image;
 use octets::limits::IMAGE_LIMIT;
-use stops::Check;
 
 // The longest text that is taken.
 const TEXT_LIMIT: usize = 4_194_304;
 
 // Writes the image that a text makes of an erased one.
 fn import(rt: &impl Console, text: &[u8], image: &mut [u8]) {
-    let check = import_image(text, image);
-    match check {
-        Check::Stopped(stop) => refuse(rt, stop),
-        Check::Pass => write_out(rt, image),
+    match import_image(text, image) {
+        Ok(()) => write_out(rt, image),
+        Err(stop) => refuse(rt, stop),
     }
 }
 
@@ -27,18 +25,16 @@ fn import(rt: &impl Console, text: &[u8], image: &mut [u8]) {
 fn run(rt: &impl Console, text: &mut [u8], image: &mut [u8])
     requires { length image.old ≡ image_limit + 1 }
 {
-    let size = number_argument(rt, 1, IMAGE_LIMIT);
-    if !size.is_number | (argument_count(rt) != 2) {
+    let (Some(size), 2) = (number_argument(rt, 1, IMAGE_LIMIT), argument_count(rt)) else {
         complain(rt, b"usage: hex_import SIZE, the image's length in bytes\n");
         return;
-    }
+    };
     let n = read_full(&mut rt.reader(), text);
     if n > TEXT_LIMIT {
         complain(rt, b"the text is longer than 4,194,304 bytes\n");
         return;
     }
-    let bytes = size.value;
-    import(rt, &text[..n], &mut image[..bytes]);
+    import(rt, &text[..n], &mut image[..size]);
 }
 
 fn main(rt: HostRuntime) {

@@ -1,12 +1,10 @@
 -- Laws of writing a line: sums of bytes, and what a line is made of. Assumes nothing.
 use mathlib.Core.Path.{◌≡◌, refl, sym, ap, ap₂, ◌∙◌}
 use mathlib.Core.List.{List, [], ◌∷◌, ◌++◌, append_assoc}
-use Prim.Native.Nat.{ℕ, ◌+◌, ◌-◌, ◌*◌, ◌%◌, ◌≤◌, ◌<◌}
+use Prim.Native.Nat.{ℕ, ◌+◌, ◌-◌, ◌*◌, ◌%◌, ◌≤◌}
 use native.Mathlib.Nat.{add-zero}
-use native.Mathlib.Numerals.{add-one}
 use native.Mathlib.Omega.{arith}
-use lib.ListN.{length, take, get_or, set, length-append, take-append-drop}
-use lib.Seq.{take-suc}
+use lib.ListN.{length, set, length-append, take-append-drop}
 use Rattle.octets.specs.Octets.{put, bytes}
 use Rattle.octets.proofs.Numbers.{length_bytes}
 use Rattle.octets.proofs.Lent.{put_on, set_put, set_on, Front, front_on}
@@ -16,16 +14,6 @@ use Rattle.hex_lines.specs.Format.{mark, line_feed, sum, checksum}
 use Rattle.hex_lines.specs.Line.{line_bytes, hex_line}
 use Rattle.hex_lines.specs.Inner.{Wrote}
 use Rattle.hex_lines.proofs.Sums.{sum_append}
-
--- ---- sums
-
--- one byte more
-pub sum_more : (s : List ℕ) (i n : ℕ) → i < length s → n ≡ sum (take i s) → n + get_or s i 0 ≡ sum (take (i + 1) s)
-unfolding sum
-sum_more s i n h e =
-    let m : sum (take (i + 1) s) ≡ sum (take i s) + sum (get_or s i 0 ∷ []) =
-    ap (λ (k : ℕ). sum (take k s)) (add-one i) ∙ ap sum (take-suc s i 0 h) ∙ sum_append (take i s) (get_or s i 0 ∷ []) in
-    omega arith
 
 -- ---- bytes written one after the other
 

@@ -1,14 +1,10 @@
 -- What the functions that write and read lines promise the layer above.
-use Rattle.std.specs.Prelude.{ℕ, ◌+◌, ◌*◌, ◌/◌, ◌<◌, ◌≡◌, Bool, true, false, cond, ◌&&◌, List, eqb, length, get_or}
+use Rattle.std.specs.Prelude.{ℕ, ◌+◌, ◌*◌, ◌/◌, ◌<◌, ◌≡◌, Bool, true, false, cond, ◌&&◌, List, eqb, length, get_or, Option, Some, None}
 use Rattle.octets.specs.Octets.{part, put}
 use Rattle.hex_digits.specs.Digits.{all_digits, decoded}
 use Rattle.hex_lines.specs.Format.{mark, line_feed, carriage_return, boundary, line_width, sum}
 use Rattle.hex_lines.specs.Line.{data_length, address, kind, shape_wrong, checksum_wrong}
 use Rattle.hex_lines.specs.declared.read.Line.{Line}
-use Rattle.hex_lines.specs.declared.read.Found.{Found}
-use Rattle.hex_lines.specs.declared.read.Found.TheVariants.{Malformed, At}
-use Rattle.hex_lines.specs.declared.read.Summed.{Summed}
-use Rattle.hex_lines.specs.declared.read.Summed.TheVariants.{NoDigit, Sum}
 
 -- some bytes were written from an offset on, and where they end
 pub record Wrote (text : List ℕ) (at : ℕ) (bytes text' : List ℕ) (end : ℕ) : Type 0 where
@@ -47,11 +43,11 @@ pub record AtLine (s : List ℕ) (l : Line) (wrong : Bool) : Type 0 where
   pub line : LineOf s l
   pub checksum : wrong ≡ checksum_wrong s
 
-abbrev pub FoundIn : List ℕ → Found → Type 0
-FoundIn s Malformed = Begins s → ⊥
-FoundIn s (At l wrong) = AtLine s l wrong
+abbrev pub FoundIn : List ℕ → Option (Line × Bool) → Type 0
+FoundIn s None = Begins s → ⊥
+FoundIn s (Some found) = AtLine s found.0 found.1
 
 -- the sum of the bytes whose digits are s
-abbrev pub SumOf : List ℕ → Summed → Type 0
-SumOf s NoDigit = all_digits s ≡ false
-SumOf s (Sum n) = (all_digits s ≡ true) × (n ≡ sum (decoded s (length s / 2)))
+abbrev pub SumOf : List ℕ → Option ℕ → Type 0
+SumOf s None = all_digits s ≡ false
+SumOf s (Some n) = (all_digits s ≡ true) × (n ≡ sum (decoded s (length s / 2)))

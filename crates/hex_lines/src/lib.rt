@@ -10,7 +10,7 @@ pub const LINE_FEED: u8 = 0x0A;
 
 pub const CARRIAGE_RETURN: u8 = 0x0D;
 
-// The types of lines.
+// The types of lines. They are numbers and no enum: line_of promises the type of any text (LineOf), and put_line_at takes any.
 pub const DATA_LINE: u8 = 0;
 
 pub const END_LINE: u8 = 1;

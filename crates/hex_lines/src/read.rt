@@ -20,20 +20,8 @@ pub struct Line {
     pub tail: usize,
 }
 
-// What stands at the front of a text: a line, and whether its checksum is wrong.
-#[derive(Clone, Copy)]
-pub enum Found {
-    Malformed,
-    At(Line, bool),
-}
-
-#[derive(Clone, Copy)]
-pub enum Summed {
-    NoDigit,
-    Sum(u32),
-}
-
 // How many bytes end a line at offset i: 0 where no line ends there.
+// A number and no Option: LineOf promises it of any text, and the length of a line is a sum with it.
 fn end_length(s: &[u8], i: usize) -> usize
     ensures { (result ≡ end_length s.now i) × (result < 3) }
 {
@@ -79,48 +67,42 @@ pub fn line_of(s: &[u8]) -> Line
 fn shape_wrong(kind: u8, n: usize, address: usize) -> bool
     ensures { result ≡ shape_wrong kind n address }
 {
-    !(((kind == DATA_LINE) & (n > 0))
-        | ((kind == END_LINE) & (n == 0) & (address == 0))
-        | ((kind == UPPER_LINE) & (n == 2) & (address == 0)))
+    match kind {
+        DATA_LINE => n == 0,
+        END_LINE => (n != 0) | (address != 0),
+        UPPER_LINE => (n != 2) | (address != 0),
+        _ => true,
+    }
 }
 
-// The sum of the bytes whose digits are s. The loop has no branch, so that a compiler can take several digits at once.
-fn digit_sum(s: &[u8]) -> Summed
+// The sum of the bytes whose digits are s, if all are digits. The loop has no branch, so that a compiler can take several digits at once.
+fn digit_sum(s: &[u8]) -> Option<u32>
     requires { (2 * (length s.now / 2) ≡ length s.now) × (length s.now < 1000) }
     ensures { SumOf s.now result }
 {
     let mut total: u32 = 0;
     let mut digits = true;
-    for i in 0..s.len() / 2 {
-        digits = digits & is_digit(s[2 * i]) & is_digit(s[2 * i + 1]);
-        total += pair(s, 2 * i) as u32;
+    for two in s.chunks_exact(2) {
+        digits = digits & is_digit(two[0]) & is_digit(two[1]);
+        total += u32::from(pair(two, 0));
     }
-    if digits {
-        Summed::Sum(total)
-    } else {
-        Summed::NoDigit
-    }
+    if digits { Some(total) } else { None }
 }
 
-// What stands at the front of s.
-pub fn line_at(s: &[u8]) -> Found
+// The line at the front of s, if one stands there, and whether its checksum is wrong.
+pub fn line_at(s: &[u8]) -> Option<(Line, bool)>
     ensures { FoundIn s.now result }
 {
     if s.len() < DATA_AT {
-        return Found::Malformed;
+        return None;
     }
     if s[0] != MARK {
-        return Found::Malformed;
+        return None;
     }
     let line = line_of(s);
-    if line.tail == 0 {
-        return Found::Malformed;
+    if (line.tail == 0) | shape_wrong(line.kind, line.length, line.address) {
+        return None;
     }
-    if shape_wrong(line.kind, line.length, line.address) {
-        return Found::Malformed;
-    }
-    match digit_sum(part(s, 1, 10 + 2 * line.length)) {
-        Summed::NoDigit => Found::Malformed,
-        Summed::Sum(total) => Found::At(line, total % 256 != 0),
-    }
+    let total = digit_sum(part(s, 1, 10 + 2 * line.length))?;
+    Some((line, total % 256 != 0))
 }

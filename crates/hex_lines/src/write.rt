@@ -13,11 +13,7 @@ fn sum(s: &[u8]) -> usize
     requires { length s.now < 256 }
     ensures { (result ≡ sum s.now) × (result < 2 ^ 16) }
 {
-    let mut total: usize = 0;
-    for i in 0..s.len() {
-        total += s[i] as usize;
-    }
-    total
+    s.iter().map(|b| usize::from(*b)).sum()
 }
 
 // The checksum of bytes with this sum.
@@ -32,7 +28,7 @@ pub fn two_bytes(n: usize) -> [u8; 2]
     requires { n < boundary }
     ensures { result ≡ bytes 2 n }
 {
-    [(n / 256) as u8, (n % 256) as u8]
+    (n as u16).to_be_bytes()
 }
 
 // The bytes that a line begins with: the number of its data bytes, its address and its type.

@@ -3,11 +3,11 @@ use mathlib.Core.Path.{◌≡◌, refl, sym, ap, ap₂, ◌∙◌}
 use mathlib.Core.Bool.{Bool, true, false, cond, not, ◌&&◌, ◌||◌}
 use mathlib.Core.Option.{Option, none, some}
 use mathlib.Core.List.{List, [], ◌∷◌}
-use Prim.Native.Nat.{ℕ, ◌+◌, ◌*◌, ◌≤◌}
+use Prim.Native.Nat.{ℕ, ◌+◌, ◌-◌, ◌*◌, ◌≤◌}
 use native.Mathlib.Omega.{arith}
 use lib.Dec.{eqb, ltb}
-use lib.ListN.{length, drop, get_or, drop_of_length-le}
-use lib.Seq.{get_or-drop}
+use lib.ListN.{length, take, drop, get_or, length-drop}
+use lib.Seq.{get_or-drop, take_all}
 use borrow.Author.Tests.{eqb-true, eq-eqb, ne_eqb, ltb-false, not-false}
 use Rattle.octets.specs.Octets.{put}
 use Rattle.octets.proofs.Laws.{and-true}
@@ -127,17 +127,23 @@ passed size r s g e =
       placed = λ k. well_placed size (data_place r s) (address s) (data_length s) r.next (sym (ap (λ (t : Bool). t && m) (eq-eqb (kind s) data_line k)) ∙ p.1.1.0);
     }
 
--- ---- the end of a text
+-- ---- what is left of a text
 
-pub text_end : (size : ℕ) (r : Reading) (text : List ℕ) (at : ℕ) → length text ≤ at → text_stop size r (lines_of (drop at text)) ≡ cond (not r.ended) (some 15) none
+-- all that stands behind n bytes
+pub whole_rest : (n : ℕ) (s : List ℕ) → take (length s - n) (drop n s) ≡ drop n s
+whole_rest n s = take_all (length s - n) (drop n s) (rw length-drop (omega arith))
+
+-- nothing
+
+pub text_end : (size : ℕ) (r : Reading) (s : List ℕ) → length s ≡ 0 → text_stop size r (lines_of s) ≡ cond (not r.ended) (some 15) none
 unfolding text_stop lines_of first_of
-text_end size r text at h =
-    ap (λ (t : List ℕ). text_stop size r (lines_of t)) (drop_of_length-le text h)
-    ∙ ap (λ (t : Bool). cond {A = Option ℕ} t (some 15) none) (or_false (not r.ended) false refl)
+text_end size r [] h = ap (λ (t : Bool). cond {A = Option ℕ} t (some 15) none) (or_false (not r.ended) false refl)
+text_end size r (b ∷ s) h = absurd (omega arith)
 
-pub stored_end : (r : Reading) (image text : List ℕ) (at : ℕ) → length text ≤ at → stored r image (lines_of (drop at text)) ≡ image
+pub stored_end : (r : Reading) (image s : List ℕ) → length s ≡ 0 → stored r image (lines_of s) ≡ image
 unfolding stored lines_of
-stored_end r image text at h = ap (λ (t : List ℕ). stored r image (lines_of t)) (drop_of_length-le text h)
+stored_end r image [] h = refl
+stored_end r image (b ∷ s) h = absurd (omega arith)
 
 -- ---- the call
 

@@ -346,8 +346,8 @@ module _ (image : List ℕ) (small : Bytes image) where
         let s : Step (length image) start ended other (filled K) (blocks image K ++ (last ++ [])) [] =
         step_on (blocks_step K (last ++ []) (omega arith)) (end_step (length image) r (filled K) refl) in
         let e : blocks image K ++ (last ++ []) ≡ blocks image K ++ last = ap (λ (x : List ℕ). blocks image K ++ x) (append-nil last) in (
-          ap (λ (x : List ℕ). text_stop (length image) start (lines_of x)) (sym e) ∙ s.judged ∙ text_end (length image) ended [] 0 (omega arith),
-          ap (λ (x : List ℕ). stored start other (lines_of x)) (sym e) ∙ s.stores ∙ stored_end ended (filled K) [] 0 (omega arith)
+          ap (λ (x : List ℕ). text_stop (length image) start (lines_of x)) (sym e) ∙ s.judged ∙ text_end (length image) ended [] refl,
+          ap (λ (x : List ℕ). stored start other (lines_of x)) (sym e) ∙ s.stores ∙ stored_end ended (filled K) [] refl
               ∙ over other image (filled K) (omega arith) (ap (put other 0) (take_all (place K) image (omega arith))),
         )
 

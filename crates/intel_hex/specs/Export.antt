@@ -1,14 +1,15 @@
 -- An image as Intel HEX (document 02, A.1): lines of 16 data bytes, of which the last may be shorter. A type 04 line comes first, and again
 -- where the upper 16 address bits change; the end line closes.
-use Rattle.std.specs.Prelude.{ℕ, zero, suc, ◌+◌, ◌-◌, ◌*◌, ◌/◌, ◌%◌, Bool, cond, not, ◌||◌, List, [], ◌∷◌, ◌++◌, eqb, ltb, length}
+use Rattle.std.specs.Prelude.{ℕ, zero, suc, ◌+◌, ◌-◌, ◌*◌, ◌/◌, ◌%◌, Bool, cond, not, ◌||◌, List, [], ◌∷◌, ◌++◌, eqb, ltb, length, Result}
 use Rattle.std.proofs.Math.Option.{Option, none, some}
+use Rattle.std.specs.Result.{result_unwrap_or}
 use Rattle.octets.specs.Limits.{image_limit, data_per_line}
 use Rattle.octets.specs.Octets.{part, put, bytes}
 use Rattle.stops.specs.Stops.{first_of}
 use Rattle.stops.specs.View.{check_number}
 use Rattle.hex_lines.specs.Format.{data_line, end_line, upper_line, boundary}
 use Rattle.hex_lines.specs.Line.{hex_line}
-use Rattle.intel_hex.specs.declared.export.Exported.{Exported}
+use Rattle.stops.specs.declared.Stop.{Stop}
 
 -- the address of data line k, counted from 0, and its upper bits
 abbrev pub place : ℕ → ℕ
@@ -69,5 +70,5 @@ unfoldable pub export : (image text : List ℕ) → Export
 export image text = export_by (export_stop image text) image text
 
 -- the code's answer, with what it left in the buffer
-abbrev pub exported_as : Exported → List ℕ → Export
-exported_as r text = record { stop = check_number r.check; written = r.written; text = text }
+abbrev pub exported_as : Result ℕ Stop → List ℕ → Export
+exported_as r text = record { stop = check_number r; written = result_unwrap_or r 0; text = text }

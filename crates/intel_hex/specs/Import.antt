@@ -1,11 +1,11 @@
 -- Intel HEX read into an image (document 02, A.1): lines in either letter case, each closed by its line feed, with or without a carriage
 -- return before it. The first bad line decides, and of its stops the lowest.
-use Rattle.std.specs.Prelude.{ℕ, ◌+◌, ◌-◌, ◌*◌, Bool, true, false, cond, not, ◌&&◌, ◌||◌, List, [], ◌∷◌, eqb, ltb, length, take, get_or}
+use Rattle.std.specs.Prelude.{ℕ, ◌+◌, ◌-◌, ◌*◌, Bool, true, false, cond, not, ◌&&◌, ◌||◌, List, [], ◌∷◌, eqb, ltb, length, take, get_or, Result}
 use Rattle.std.proofs.Math.Option.{Option, none, some}
 use Rattle.octets.specs.Octets.{put}
 use Rattle.stops.specs.Stops.{first_of}
 use Rattle.stops.specs.View.{check_number}
-use Rattle.stops.specs.declared.Check.{Check}
+use Rattle.stops.specs.declared.Stop.{Stop}
 use Rattle.hex_lines.specs.Format.{line_feed, carriage_return, data_line, upper_line, boundary}
 use Rattle.hex_lines.specs.Line.{data_length, address, kind, data_bytes, upper_bits, malformed, checksum_wrong}
 use Rattle.intel_hex.specs.Export.{image_wrong}
@@ -99,5 +99,5 @@ unfoldable pub import : (text image : List ℕ) → Import
 import text image = import_by (import_stop text image) text image
 
 -- the code's answer, with what it left in the image
-abbrev pub imported_as : Check → List ℕ → Import
+abbrev pub imported_as : Result Unit Stop → List ℕ → Import
 imported_as r image = record { stop = check_number r; image = image }

@@ -1,11 +1,12 @@
 -- What the inner functions find in a text; no call's contract names it.
-use Rattle.std.specs.Prelude.{ℕ, ◌+◌, ◌-◌, ◌*◌, ◌/◌, ◌<◌, ◌≤◌, ◌≡◌, Bool, ◌&&◌, List, [], ◌∷◌, eqb, length, drop}
-use Rattle.std.proofs.Math.Option.{Option, none}
+use Rattle.std.specs.Prelude.{ℕ, ◌+◌, ◌-◌, ◌*◌, ◌/◌, ◌<◌, ◌≤◌, ◌≡◌, Bool, ◌&&◌, List, [], ◌∷◌, eqb, length, drop, Result, Ok, Err}
+use Rattle.std.proofs.Math.Option.{Option, some}
 use Rattle.stops.specs.Stops.{first_of}
-use Rattle.stops.specs.View.{check_number}
+use Rattle.stops.specs.View.{stop_number}
+use Rattle.stops.specs.declared.Stop.{Stop}
 use Rattle.hex_lines.specs.Format.{data_line, boundary}
 use Rattle.intel_hex.specs.Export.{line_count}
-use Rattle.intel_hex.specs.Import.{misplaced, or_else, text_stop, lines_of}
+use Rattle.intel_hex.specs.Import.{misplaced, text_stop, lines_of}
 use Rattle.intel_hex.specs.declared.import.Reading.{Reading}
 use Rattle.intel_hex.specs.declared.import.Judged.{Judged}
 
@@ -24,9 +25,13 @@ checks size r k a n wrong = first_of (
     (16, wrong) ∷
     (17, eqb k data_line && misplaced size (r.upper * boundary + a) a n r.next) ∷ [])
 
--- what judging the line that s begins with gives
-pub record JudgedAs (s : List ℕ) (r : Reading) (size : ℕ) (t : Judged) : Type 0 where
-  pub stop : text_stop size r (lines_of s) ≡ or_else (check_number t.check) (text_stop size t.reading (lines_of (drop t.length s)))
-  pub passed : check_number t.check ≡ none → 0 < t.length
-  pub within : check_number t.check ≡ none → t.length ≤ length s
-  pub upper : check_number t.check ≡ none → t.reading.upper < boundary
+-- what judging the line that s begins with gives, where it does not stop
+pub record Passes (s : List ℕ) (r : Reading) (size : ℕ) (t : Judged) : Type 0 where
+  pub on : text_stop size r (lines_of s) ≡ text_stop size t.reading (lines_of (drop t.length s))
+  pub more : 0 < t.length
+  pub within : t.length ≤ length s
+  pub upper : t.reading.upper < boundary
+
+abbrev pub JudgedAs : (s : List ℕ) (r : Reading) (size : ℕ) → Result Judged Stop → Type 0
+JudgedAs s r size (Ok t) = Passes s r size t
+JudgedAs s r size (Err e) = text_stop size r (lines_of s) ≡ some (stop_number e)

@@ -9,14 +9,7 @@ use crate::image_wrong;
 use hex_lines::write::{put_line_at, two_bytes};
 use hex_lines::{BOUNDARY, DATA_LINE, END_LINE, LEAST_FED, UPPER_LINE};
 use octets::limits::DATA_PER_LINE;
-use stops::{Check, Stop};
-
-// What an export answers: the length of the text, or why it stopped, and then 0.
-#[derive(Clone, Copy)]
-pub struct Exported {
-    pub check: Check,
-    pub written: usize,
-}
+use stops::Stop;
 
 // Writes the type 04 line before data line k, if there is one, from offset at on, and answers where it ends.
 fn put_upper(text: &mut [u8], at: usize, k: usize) -> usize
@@ -36,6 +29,7 @@ fn data_end(from: usize, n: usize) -> usize
     requires { from ≤ n }
     ensures { result ≡ min (from + data_per_line) n }
 {
+    // A compiler makes code of its own for the full lines of this branch, and not of `min`.
     if n - from < DATA_PER_LINE {
         n
     } else {
@@ -67,7 +61,7 @@ fn line_count(n: usize) -> usize
     requires { n ≤ image_limit }
     ensures { result ≡ line_count n }
 {
-    (n + (DATA_PER_LINE - 1)) / DATA_PER_LINE
+    n.div_ceil(DATA_PER_LINE)
 }
 
 // How long the text of an image of n bytes is. A type 04 line has 16 bytes with its line feed.
@@ -75,8 +69,7 @@ fn text_length(n: usize) -> usize
     requires { n ≤ image_limit }
     ensures { result ≡ text_length n }
 {
-    let uppers = (n + (BOUNDARY - 1)) / BOUNDARY;
-    16 * uppers + (LEAST_FED * line_count(n) + 2 * n) + LEAST_FED
+    16 * n.div_ceil(BOUNDARY) + (LEAST_FED * line_count(n) + 2 * n) + LEAST_FED
 }
 
 // Writes the text of an image to the front of a buffer that has room for it, and answers its length.
@@ -86,32 +79,23 @@ fn put_text(image: &[u8], text: &mut [u8]) -> usize
 {
     let n = line_count(image.len());
     let mut at = 0;
+    // A data line goes by its number, from which its address follows.
     for k in 0..n {
         at = put_block(text, at, image, k);
     }
     put_line_at(text, at, END_LINE, 0, b"")
 }
 
-// Writes an image as Intel HEX to the front of text. On a stop text stays as it was.
-pub fn export_image(image: &[u8], text: &mut [u8]) -> Exported
+// Writes an image as Intel HEX to the front of text, and answers the length of what it wrote. On a stop text stays as it was.
+pub fn export_image(image: &[u8], text: &mut [u8]) -> Result<usize, Stop>
     ensures { exported_as result text.new ≡ export image.now text.old }
 {
     let n = image.len();
     if image_wrong(n) {
-        return Exported {
-            check: Check::Stopped(Stop::FramSize),
-            written: 0,
-        };
+        return Err(Stop::FramSize);
     }
     if text.len() < text_length(n) {
-        return Exported {
-            check: Check::Stopped(Stop::BufferSize),
-            written: 0,
-        };
+        return Err(Stop::BufferSize);
     }
-    let written = put_text(image, text);
-    Exported {
-        check: Check::Pass,
-        written,
-    }
+    Ok(put_text(image, text))
 }

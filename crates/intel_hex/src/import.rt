@@ -1,5 +1,5 @@
 // A text of Intel HEX read into an image: one pass judges the text, and one stores its data.
-ghost use Rattle.std.specs.Prelude.{◌≡◌, ◌+◌, ◌*◌, ◌^◌, ◌≤◌, ◌<◌, length, drop};
+ghost use Rattle.std.specs.Prelude.{◌≡◌, ◌+◌, ◌*◌, ◌^◌, ◌≤◌, ◌<◌, length};
 ghost use Rattle.std.proofs.Math.Option.{none};
 ghost use Rattle.stops.specs.View.{check_number};
 ghost use Rattle.hex_lines.specs.Format.{boundary, data_line};
@@ -10,9 +10,9 @@ ghost use Rattle.intel_hex.specs.Inner.{checks, JudgedAs};
 
 use crate::image_wrong;
 use hex_digits::decode;
-use hex_lines::read::{Found, Line, line_at, line_of, number};
+use hex_lines::read::{Line, line_at, line_of, number};
 use hex_lines::{BOUNDARY, DATA_AT, DATA_LINE, LEAST_LINE, UPPER_LINE};
-use stops::{Check, Stop};
+use stops::{Stop, StopIf};
 
 // What the lines so far have set: the upper address bits, the first address above the data, and whether the end line has been read.
 #[derive(Clone, Copy)]
@@ -22,10 +22,9 @@ pub struct Reading {
     pub ended: bool,
 }
 
-// What one line more gives: its stop, the reading behind it, and its length with its end.
+// What one line more gives, if it does not stop: the reading behind it, and its length with its end.
 #[derive(Clone, Copy)]
 pub struct Judged {
-    pub check: Check,
     pub reading: Reading,
     pub length: usize,
 }
@@ -39,14 +38,6 @@ fn start() -> Reading
         next: 0,
         ended: false,
     }
-}
-
-// What is left of a text from offset i on.
-fn rest(text: &[u8], i: usize) -> &[u8]
-    requires { i ≤ length text.now }
-    ensures { result.now ≡ drop i text.now }
-{
-    &text[i..]
 }
 
 // Whether the data of a line stand outside the image, past a 64 KiB boundary, or not above the data before.
@@ -66,7 +57,7 @@ fn data_place(reading: Reading, address: usize) -> usize
 }
 
 // The checks of a line that is not malformed.
-fn line_check(line: Line, wrong: bool, reading: Reading, size: usize) -> Check
+fn line_check(line: Line, wrong: bool, reading: Reading, size: usize) -> Result<(), Stop>
     requires { (reading.upper < boundary) × (line.address < boundary) × (line.length < 256) }
     ensures { check_number result ≡ checks size reading line.kind line.address line.length wrong }
 {
@@ -74,7 +65,7 @@ fn line_check(line: Line, wrong: bool, reading: Reading, size: usize) -> Check
     let n = line.length;
     let place = data_place(reading, address);
     let data = line.kind == DATA_LINE;
-    Check::Pass
+    Ok(())
         .stop_if(reading.ended, Stop::BadLine)
         .stop_if(wrong, Stop::BadChecksum)
         .stop_if(
@@ -88,25 +79,19 @@ fn after(s: &[u8], line: Line, reading: Reading) -> Reading
     requires { Begins s.now × LineOf s.now line × (reading.upper < boundary) }
     ensures { (result ≡ after reading s.now) × (result.upper < boundary) }
 {
-    if line.kind == DATA_LINE {
-        let place = data_place(reading, line.address);
-        return Reading {
-            upper: reading.upper,
-            next: place + line.length,
-            ended: reading.ended,
-        };
-    }
-    if line.kind == UPPER_LINE {
-        return Reading {
+    match line.kind {
+        DATA_LINE => Reading {
+            next: data_place(reading, line.address) + line.length,
+            ..reading
+        },
+        UPPER_LINE => Reading {
             upper: number(s, DATA_AT),
-            next: reading.next,
-            ended: reading.ended,
-        };
-    }
-    Reading {
-        upper: reading.upper,
-        next: reading.next,
-        ended: true,
+            ..reading
+        },
+        _ => Reading {
+            ended: true,
+            ..reading
+        },
     }
 }
 
@@ -119,41 +104,32 @@ fn line_length(line: Line) -> usize
 }
 
 // One line more, which s begins with, for an image of so many bytes.
-fn judge_line(s: &[u8], reading: Reading, size: usize) -> Judged
+fn judge_line(s: &[u8], reading: Reading, size: usize) -> Result<Judged, Stop>
     requires { (0 < length s.now) × (reading.upper < boundary) }
     ensures { JudgedAs s.now reading size result }
 {
-    match line_at(s) {
-        Found::Malformed => Judged {
-            check: Check::Stopped(Stop::BadLine),
-            reading,
-            length: 0,
-        },
-        Found::At(line, wrong) => Judged {
-            check: line_check(line, wrong, reading, size),
-            reading: after(s, line, reading),
-            length: line_length(line),
-        },
-    }
+    let Some((line, wrong)) = line_at(s) else {
+        return Err(Stop::BadLine);
+    };
+    line_check(line, wrong, reading, size)?;
+    Ok(Judged {
+        reading: after(s, line, reading),
+        length: line_length(line),
+    })
 }
 
 // The check of a text for an image of so many bytes.
-fn text_check(text: &[u8], size: usize) -> Check
+fn text_check(text: &[u8], size: usize) -> Result<(), Stop>
     ensures { check_number result ≡ text_stop size start (lines_of text.now) }
 {
     let mut reading = start();
-    let mut at = 0;
-    while at < text.len() {
-        let next = judge_line(rest(text, at), reading, size);
-        let check = next.check;
-        match check {
-            Check::Stopped(stop) => return Check::Stopped(stop),
-            Check::Pass => {}
-        }
-        reading = next.reading;
-        at += next.length;
+    let mut rest = text;
+    while !rest.is_empty() {
+        let judged = judge_line(rest, reading, size)?;
+        reading = judged.reading;
+        rest = &rest[judged.length..];
     }
-    Check::Pass.stop_if(!reading.ended, Stop::BadLine)
+    Ok(()).stop_if(!reading.ended, Stop::BadLine)
 }
 
 // Stores the data of the line that s begins with, if it is a data line.
@@ -164,7 +140,7 @@ fn store_line(s: &[u8], line: Line, reading: Reading, image: &mut [u8])
     if line.kind == DATA_LINE {
         let place = data_place(reading, line.address);
         let n = line.length;
-        decode(rest(s, DATA_AT), n, &mut image[place..]);
+        decode(&s[DATA_AT..], n, &mut image[place..]);
     }
 }
 
@@ -174,30 +150,23 @@ fn store_text(text: &[u8], image: &mut [u8])
     ensures { image.new ≡ stored start image.old (lines_of text.now) }
 {
     let mut reading = start();
-    let mut at = 0;
-    while at < text.len() {
-        let s = rest(text, at);
-        let line = line_of(s);
-        store_line(s, line, reading, image);
-        let next = after(s, line, reading);
-        reading = next;
-        at += line_length(line);
+    let mut rest = text;
+    while !rest.is_empty() {
+        let line = line_of(rest);
+        store_line(rest, line, reading, image);
+        reading = after(rest, line, reading);
+        rest = &rest[line_length(line)..];
     }
 }
 
 // Stores the data of a text of Intel HEX in an image. Bytes that no line names keep their contents; on a stop all do.
-pub fn import_image(text: &[u8], image: &mut [u8]) -> Check
+pub fn import_image(text: &[u8], image: &mut [u8]) -> Result<(), Stop>
     ensures { imported_as result image.new ≡ import text.now image.old }
 {
     if image_wrong(image.len()) {
-        return Check::Stopped(Stop::FramSize);
+        return Err(Stop::FramSize);
     }
-    let check = text_check(text, image.len());
-    match check {
-        Check::Stopped(stop) => Check::Stopped(stop),
-        Check::Pass => {
-            store_text(text, image);
-            Check::Pass
-        }
-    }
+    text_check(text, image.len())?;
+    store_text(text, image);
+    Ok(())
 }

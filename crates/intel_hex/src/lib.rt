@@ -7,7 +7,7 @@ mod import;
 ghost use Rattle.std.specs.Prelude.{◌≡◌};
 ghost use Rattle.intel_hex.specs.Export.{image_wrong};
 
-pub use export::{Exported, export_image};
+pub use export::export_image;
 pub use import::import_image;
 use octets::limits::IMAGE_LIMIT;
 

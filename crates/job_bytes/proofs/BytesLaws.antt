@@ -1,12 +1,6 @@
 -- Laws of jobs and sessions as bytes. Assumes nothing.
-use Prim.Native.Nat.{ℕ, ◌+◌, ◌/◌, ◌%◌}
-use mathlib.Core.Path.{◌≡◌, refl, ap, ap₂, ◌∙◌}
-use mathlib.Core.Bool.{Bool, true, false, not, ◌||◌}
-use mathlib.Core.List.{List, [], ◌∷◌, ◌++◌}
-use native.Mathlib.Omega.{arith}
-use borrow.Author.Tests.{eqb-true, not-false}
-use lib.Dec.{eqb}
-use lib.ListN.{length}
+use Rattle.std.proofs.Common.{ℕ, ◌+◌, ◌/◌, ◌%◌, ◌≡◌, refl, ap, ap₂, ◌∙◌, Bool, true, false, not, ◌||◌, List, [], ◌∷◌, ◌++◌, arith, eqb-true, eqb, length}
+use borrow.Author.Tests.{not-false}
 use Rattle.octets.specs.Limits.{nonce_length, slot_length, tag_length}
 use Rattle.octets.specs.Octets.{part, put, bytes}
 use Rattle.octets.specs.Word.{word_at}

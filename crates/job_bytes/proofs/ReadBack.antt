@@ -1,12 +1,6 @@
 -- What was written reads back: the bytes of a job are read as that job, and those of a session as that session. Assumes nothing.
-use Prim.Native.Nat.{ℕ, ◌+◌, ◌^◌, ◌≤◌, ◌<◌}
-use mathlib.Core.Path.{◌≡◌, refl, sym, ap, ap₂, ◌∙◌}
-use mathlib.Core.Bool.{false}
-use mathlib.Core.List.{List, [], ◌∷◌, ◌++◌}
-use native.Mathlib.Omega.{arith}
-use borrow.Author.Tests.{eq-eqb}
-use lib.Dec.{lit<, lit≤}
-use lib.ListN.{length, length-append, get_or-append}
+use Rattle.std.proofs.Common.{ℕ, ◌+◌, ◌^◌, ◌≤◌, ◌<◌, ◌≡◌, refl, sym, ap, ap₂, ◌∙◌, false, List, [], ◌∷◌, ◌++◌, arith, eq-eqb, lit<, lit≤, length, length-append}
+use lib.ListN.{get_or-append}
 use Rattle.octets.specs.Limits.{nonce_length, slot_length, tag_length}
 use Rattle.octets.specs.Octets.{part}
 use Rattle.octets.specs.Word.{word_at}

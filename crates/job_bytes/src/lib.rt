@@ -1,16 +1,14 @@
 // Jobs and sessions as bytes (hosts/c/keeper.h): read from a buffer, and written to one.
 #![tactic(auto)]
 
-ghost use Rattle.std.specs.Prelude.{◌≡◌, ◌+◌, ◌≤◌, ◌<◌, length};
-ghost use Rattle.octets.specs.Limits.{nonce_length, tag_length};
+ghost use Rattle.std.specs.Prelude.{◌≡◌, ◌+◌, ◌≤◌, false, length};
 ghost use Rattle.octets.specs.Octets.{part, put};
 ghost use Rattle.octets.specs.Word.{word_at};
 ghost use Rattle.jobs.specs.View.{view_phase, view_origin, view_job, view_session};
 ghost use Rattle.job_bytes.specs.Bytes.{job_length, session_length, word_of, phase_number, phase_place, origin_number, job_words, job_bytes, session_bytes, phase_of, origin_of, no_job_in, job_in, session_in};
 
 use jobs::{Job, Origin, Phase, Session, no_job};
-use octets::limits::{NONCE_LENGTH, TAG_LENGTH};
-use octets::{copy_at, part, sixteen, twelve, word_at, word_bytes};
+use octets::{array, copy_at, part, word_at, word_bytes};
 
 pub const JOB_LENGTH: usize = 64;
 
@@ -26,22 +24,15 @@ fn number_at(bytes: &[u8], i: usize) -> usize
     word_at(bytes, i) as usize
 }
 
-// The nonce at offset i.
-fn nonce_at(bytes: &[u8], i: usize) -> [u8; NONCE_LENGTH]
-    requires { i + nonce_length ≤ length bytes.now }
-    ensures { result ≡ part bytes.now i nonce_length }
+// The N bytes at offset i.
+fn array_at<const N: usize>(bytes: &[u8], i: usize) -> [u8; N]
+    requires { i + N ≤ length bytes.now }
+    ensures { result ≡ part bytes.now i N }
 {
-    twelve(part(bytes, i, NONCE_LENGTH))
+    array(part(bytes, i, N))
 }
 
-// The record or the tag at offset i.
-fn sixteen_at(bytes: &[u8], i: usize) -> [u8; TAG_LENGTH]
-    requires { i + tag_length ≤ length bytes.now }
-    ensures { result ≡ part bytes.now i tag_length }
-{
-    sixteen(part(bytes, i, TAG_LENGTH))
-}
-
+// The numbers of phases and origins, here and below, are those of the C interface (hosts/c/keeper.h).
 fn phase_of(number: u32, place: usize) -> Phase
     ensures { view_phase result ≡ phase_of number place }
 {
@@ -64,43 +55,42 @@ fn origin_of(number: u32) -> Origin
 }
 
 // Whether a buffer holds no job.
+#[tactic(auto, unfolding(crate::specs::Bytes::no_job_in))]
 fn no_job_in(bytes: &[u8]) -> bool
-    ensures { result ≡ no_job_in bytes.now }
+    ensures { (result ≡ no_job_in bytes.now) × (result ≡ false → length bytes.now ≡ job_length) }
 {
     if bytes.len() != JOB_LENGTH {
         return true;
     }
-    let phase = word_at(bytes, 0);
-    let origin = word_at(bytes, 8);
-    let unknown_phase = (phase < 1) | (5 < phase);
-    let unknown_origin = (origin < 1) | (2 < origin);
+    let unknown_phase = !matches!(word_at(bytes, 0), 1..=5);
+    let unknown_origin = !matches!(word_at(bytes, 8), 1..=2);
     unknown_phase | unknown_origin
 }
 
 // The job of a buffer, or the one that no advance goes on with.
+#[tactic(auto, unfolding(crate::specs::Bytes::job_in))]
 pub fn job_in(bytes: &[u8]) -> Job
     ensures { view_job result ≡ job_in bytes.now }
 {
     if no_job_in(bytes) {
         return no_job();
     }
-    let phase = phase_of(word_at(bytes, 0), number_at(bytes, 4));
-    let origin = origin_of(word_at(bytes, 8));
     Job {
-        phase,
-        origin,
+        phase: phase_of(word_at(bytes, 0), number_at(bytes, 4)),
+        origin: origin_of(word_at(bytes, 8)),
         half: number_at(bytes, 12),
         length: number_at(bytes, 16),
         page: number_at(bytes, 20),
         slot: number_at(bytes, 24),
-        nonce: nonce_at(bytes, 28),
-        tag: sixteen_at(bytes, 40),
+        nonce: array_at(bytes, 28),
+        tag: array_at(bytes, 40),
         restarts: number_at(bytes, 56),
         packet: number_at(bytes, 60),
     }
 }
 
 // The session of a buffer.
+#[tactic(auto, unfolding(crate::specs::Bytes::session_in))]
 pub fn session_in(bytes: &[u8]) -> Session
     requires { length bytes.now ≡ session_length }
     ensures { view_session result ≡ session_in bytes.now }
@@ -108,8 +98,8 @@ pub fn session_in(bytes: &[u8]) -> Session
     Session {
         page: number_at(bytes, 0),
         slot: number_at(bytes, 4),
-        latest: sixteen_at(bytes, 8),
-        tag: sixteen_at(bytes, 24),
+        latest: array_at(bytes, 8),
+        tag: array_at(bytes, 24),
         restarts: number_at(bytes, 40),
         packet: number_at(bytes, 44),
     }
@@ -142,11 +132,8 @@ fn phase_place(phase: Phase) -> usize
     ensures { result ≡ phase_place (view_phase phase) }
 {
     match phase {
-        Phase::EraseFirst(p) => p,
-        Phase::Words(w) => w,
-        Phase::Record => 0,
-        Phase::EraseAfter(p) => p,
-        Phase::Done => 0,
+        Phase::EraseFirst(n) | Phase::Words(n) | Phase::EraseAfter(n) => n,
+        Phase::Record | Phase::Done => 0,
     }
 }
 
@@ -164,11 +151,9 @@ fn put_job_words(bytes: &mut [u8], job: Job)
     requires { length bytes.old ≡ job_length }
     ensures { bytes.new ≡ put bytes.old 0 (job_words (view_job job)) }
 {
-    let phase = job.phase;
-    let origin = job.origin;
-    put_word(bytes, 0, phase_number(phase));
-    put_word(bytes, 4, phase_place(phase));
-    put_word(bytes, 8, origin_number(origin));
+    put_word(bytes, 0, phase_number(job.phase));
+    put_word(bytes, 4, phase_place(job.phase));
+    put_word(bytes, 8, origin_number(job.origin));
     put_word(bytes, 12, job.half);
     put_word(bytes, 16, job.length);
     put_word(bytes, 20, job.page);
@@ -180,11 +165,9 @@ pub fn put_job(bytes: &mut [u8], job: Job)
     requires { length bytes.old ≡ job_length }
     ensures { bytes.new ≡ job_bytes (view_job job) }
 {
-    let nonce = job.nonce;
-    let tag = job.tag;
     put_job_words(bytes, job);
-    copy_at(&nonce, bytes, 28);
-    copy_at(&tag, bytes, 40);
+    copy_at(&job.nonce, bytes, 28);
+    copy_at(&job.tag, bytes, 40);
     put_word(bytes, 56, job.restarts);
     put_word(bytes, 60, job.packet);
 }
@@ -194,12 +177,10 @@ pub fn put_session(bytes: &mut [u8], session: Session)
     requires { length bytes.old ≡ session_length }
     ensures { bytes.new ≡ session_bytes (view_session session) }
 {
-    let latest = session.latest;
-    let tag = session.tag;
     put_word(bytes, 0, session.page);
     put_word(bytes, 4, session.slot);
-    copy_at(&latest, bytes, 8);
-    copy_at(&tag, bytes, 24);
+    copy_at(&session.latest, bytes, 8);
+    copy_at(&session.tag, bytes, 24);
     put_word(bytes, 40, session.restarts);
     put_word(bytes, 44, session.packet);
 }

@@ -1,29 +1,29 @@
 // An advance (document 01, "What the unit calls"): the one store that a job's phase names.
-ghost use Rattle.std.specs.Prelude.{◌≡◌, false, cond, List, ℕ, ◌+◌, ◌*◌, ◌%◌, ◌≤◌, ◌<◌, length, eqb};
-ghost use Rattle.std.proofs.Math.Option.{none, some};
+ghost use Rattle.std.specs.Prelude.{◌≡◌, Ok, false, cond, List, ℕ, ◌+◌, ◌*◌, ◌%◌, ◌≤◌, ◌<◌, length, eqb};
+ghost use Rattle.std.proofs.Math.Option.{none};
 ghost use Rattle.octets.specs.Limits.{slot_length};
-ghost use Rattle.stops.specs.View.{check_number, stop_number};
+ghost use Rattle.stops.specs.View.{check_number};
 ghost use Rattle.ring.specs.Ring.{ring_wrong, page_before};
 ghost use Rattle.checkpoint.specs.Checkpoint.{Longer};
 ghost use Rattle.protocol.specs.Types.{Words, Record, EraseAfter, this_firmware};
 ghost use Rattle.protocol.specs.Calls.{sizes};
-ghost use Rattle.protocol.specs.Operations.{phase_wrong, job_wrong, advance_stop, going_on, finished, ended, erase_follows, store, advance_by, advance};
-ghost use Rattle.jobs.specs.View.{view_phase, view_origin, view_job, view_progress, view_advanced, advances};
+ghost use Rattle.protocol.specs.Operations.{phase_wrong, job_wrong, advance_stop, going_on, finished, ended, erase_follows, store, advance};
+ghost use Rattle.jobs.specs.View.{view_phase, view_origin, view_job, view_session, view_progress, session_out, view_moved, view_advanced, advances};
 
-use crate::job::no_session;
-use crate::types::{Advanced, Job, Origin, Phase, Progress};
+use crate::types::{Advanced, Job, Origin, Phase, Progress, Session};
 use crate::word::copy_word;
 use checkpoint::layout::EMPTY_LENGTH;
-use memories::check_memories;
+use memories::Memories;
 use ring::{erase_page, page_before, page_is_blank, slot_is_blank, write_record};
-use stops::{Check, Stop};
+use stops::{Stop, StopIf};
 
-fn finished(origin: Origin) -> Progress
-    ensures { view_progress result ≡ finished (view_origin origin) }
+// The end of a job from a start: 'saved' or 'restored', with the new session.
+fn finished(origin: Origin, session: Session) -> Progress
+    ensures { (view_progress (Ok result) ≡ finished (view_origin origin)) × (session_out (Ok result) ≡ view_session session) }
 {
     match origin {
-        Origin::Save => Progress::Saved,
-        Origin::PowerUp => Progress::Restored,
+        Origin::Save => Progress::Saved(session),
+        Origin::PowerUp => Progress::Restored(session),
     }
 }
 
@@ -33,8 +33,7 @@ impl Job {
         requires { (self.length % 4 ≡ 0) × (slot_length * (self.page * slots + self.slot) + slot_length ≤ length ring.now) }
         ensures { result ≡ phase_wrong (view_phase self.phase) (view_job self) (sizes pages slots) ring.now }
     {
-        let phase = self.phase;
-        match phase {
+        match self.phase {
             Phase::EraseFirst(p) => pages <= p,
             Phase::Words(w) => self.length / 4 <= w,
             Phase::Record => !slot_is_blank(ring, slots, self.page, self.slot),
@@ -58,62 +57,52 @@ impl Job {
     }
 
     // Stops 1, 2, 4 and 14.
-    fn check(self, pages: usize, slots: usize, ring: &[u8], fram: &[u8], staging: &[u8]) -> Check
+    fn check(
+        self,
+        pages: usize,
+        slots: usize,
+        ring: &[u8],
+        fram: &[u8],
+        staging: &[u8],
+    ) -> Result<(), Stop>
         ensures { check_number result ≡ advance_stop this_firmware ring.now fram.now (advances pages slots self staging.now) }
     {
-        match check_memories(ring, pages, slots, fram) {
-            Check::Stopped(stop) => Check::Stopped(stop),
-            Check::Pass => {
-                Check::Pass
-                    .stop_if(staging.len() < fram.len() / 2, Stop::BufferSize)
-                    .stop_if(self.wrong(pages, slots, ring, fram), Stop::BadJob)
-            }
-        }
-    }
-
-    fn refused(self, stop: Stop) -> Advanced
-        ensures { (ring fram staging : List ℕ) (pages slots : ℕ) → view_advanced result ring fram ≡ advance_by (some (stop_number stop)) ring fram (advances pages slots self staging) }
-    {
-        let session = no_session();
-        Advanced {
-            progress: Progress::Refused(stop),
-            job: self,
-            session,
-        }
+        let memories = Memories {
+            pages,
+            slots,
+            ring,
+            fram,
+        };
+        memories.check()?;
+        Ok(())
+            .stop_if(staging.len() < fram.len() / 2, Stop::BufferSize)
+            .stop_if(self.wrong(pages, slots, ring, fram), Stop::BadJob)
     }
 
     fn going_on(self, phase: Phase) -> Advanced
-        ensures { (ring fram : List ℕ) → view_advanced result ring fram ≡ going_on (view_job self) (view_phase phase) ring fram }
+        ensures { (ring fram : List ℕ) → view_moved (Ok result.progress) result.job ring fram ≡ going_on (view_job self) (view_phase phase) ring fram }
     {
-        let job = self.in_phase(phase);
-        let session = no_session();
         Advanced {
             progress: Progress::GoingOn,
-            job,
-            session,
+            job: self.in_phase(phase),
         }
     }
 
     // Done: 'saved' or 'restored', with the new session.
     fn ended(self) -> Advanced
         requires { self.half < 2 }
-        ensures { (ring fram : List ℕ) → view_advanced result ring fram ≡ ended (view_job self) ring fram }
+        ensures { (ring fram : List ℕ) → view_moved (Ok result.progress) result.job ring fram ≡ ended (view_job self) ring fram }
     {
-        let origin = self.origin;
-        let progress = finished(origin);
-        let job = self.in_phase(Phase::Done);
-        let session = self.session();
         Advanced {
-            progress,
-            job,
-            session,
+            progress: finished(self.origin, self.session()),
+            job: self.in_phase(Phase::Done),
         }
     }
 
     // After word w comes the next one or, behind the last, the record.
     fn after_word(self, w: usize) -> Advanced
         requires { (self.length % 4 ≡ 0) × (4 * w < self.length) }
-        ensures { (ring fram : List ℕ) → view_advanced result ring fram ≡ going_on (view_job self) (cond (eqb (4 * (w + 1)) self.length) Record (Words (w + 1))) ring fram }
+        ensures { (ring fram : List ℕ) → view_moved (Ok result.progress) result.job ring fram ≡ going_on (view_job self) (cond (eqb (4 * (w + 1)) self.length) Record (Words (w + 1))) ring fram }
     {
         if 4 * (w + 1) == self.length {
             self.going_on(Phase::Record)
@@ -125,7 +114,7 @@ impl Job {
     // After the record, which `ring` holds, the page before is to be erased if the record opened a page and it is not blank.
     fn after_record(self, pages: usize, slots: usize, ring: &[u8]) -> Advanced
         requires { (self.half < 2) × (self.page < pages) × (ring_wrong pages slots ring.now ≡ false) }
-        ensures { (fram : List ℕ) → view_advanced result ring.now fram ≡ cond (erase_follows ring.now (sizes pages slots) (view_job self)) (going_on (view_job self) (EraseAfter (page_before pages self.page)) ring.now fram) (ended (view_job self) ring.now fram) }
+        ensures { (fram : List ℕ) → view_moved (Ok result.progress) result.job ring.now fram ≡ cond (erase_follows ring.now (sizes pages slots) (view_job self)) (going_on (view_job self) (EraseAfter (page_before pages self.page)) ring.now fram) (ended (view_job self) ring.now fram) }
     {
         if self.slot != 0 {
             return self.ended();
@@ -147,10 +136,9 @@ impl Job {
         staging: &[u8],
     ) -> Advanced
         requires { advance_stop this_firmware ring.old fram.old (advances pages slots self staging.now) ≡ none }
-        ensures { view_advanced result ring.new fram.new ≡ store (view_phase self.phase) ring.old fram.old (advances pages slots self staging.now) }
+        ensures { view_moved (Ok result.progress) result.job ring.new fram.new ≡ store (view_phase self.phase) ring.old fram.old (advances pages slots self staging.now) }
     {
-        let phase = self.phase;
-        match phase {
+        match self.phase {
             Phase::EraseFirst(p) => {
                 erase_page(ring, slots, p);
                 self.going_on(Phase::Words(0))
@@ -180,12 +168,10 @@ impl Job {
         ring: &mut [u8],
         fram: &mut [u8],
         staging: &[u8],
-    ) -> Advanced
-        ensures { view_advanced result ring.new fram.new ≡ advance this_firmware ring.old fram.old (advances pages slots self staging.now) }
+    ) -> Result<Advanced, Stop>
+        ensures { view_advanced self result ring.new fram.new ≡ advance this_firmware ring.old fram.old (advances pages slots self staging.now) }
     {
-        match self.check(pages, slots, ring, fram, staging) {
-            Check::Stopped(stop) => self.refused(stop),
-            Check::Pass => self.store(pages, slots, ring, fram, staging),
-        }
+        self.check(pages, slots, ring, fram, staging)?;
+        Ok(self.store(pages, slots, ring, fram, staging))
     }
 }

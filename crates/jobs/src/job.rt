@@ -11,11 +11,9 @@ use ring::record_of;
 pub fn no_job() -> Job
     ensures { view_job result ≡ no_job }
 {
-    let phase = Phase::Done;
-    let origin = Origin::Save;
     Job {
-        phase,
-        origin,
+        phase: Phase::Done,
+        origin: Origin::Save,
         half: 0,
         length: 0,
         page: 0,
@@ -45,21 +43,7 @@ impl Job {
     pub(crate) fn in_phase(self, phase: Phase) -> Job
         ensures { view_job result ≡ in_phase (view_job self) (view_phase phase) }
     {
-        let origin = self.origin;
-        let nonce = self.nonce;
-        let tag = self.tag;
-        Job {
-            phase,
-            origin,
-            half: self.half,
-            length: self.length,
-            page: self.page,
-            slot: self.slot,
-            nonce,
-            tag,
-            restarts: self.restarts,
-            packet: self.packet,
-        }
+        Job { phase, ..self }
     }
 
     // The record that the job writes.
@@ -67,8 +51,7 @@ impl Job {
         requires { self.half < 2 }
         ensures { result ≡ job_record (view_job self) }
     {
-        let nonce = self.nonce;
-        record_of(nonce, self.half)
+        record_of(self.nonce, self.half)
     }
 
     // The session that the job ends in.

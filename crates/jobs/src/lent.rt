@@ -4,7 +4,8 @@ ghost use Rattle.protocol.specs.Types.{this_firmware};
 ghost use Rattle.protocol.specs.Operations.{advance};
 ghost use Rattle.jobs.specs.View.{view_moved, advances};
 
-use crate::types::{Job, Moved};
+use crate::types::{Advanced, Job, Progress};
+use stops::Stop;
 
 // Advances the job where it lives: takes it out, advances it by value and stores the new one in its place.
 pub fn advance_lent(
@@ -14,14 +15,13 @@ pub fn advance_lent(
     ring: &mut [u8],
     fram: &mut [u8],
     staging: &[u8],
-) -> Moved
+) -> Result<Progress, Stop>
     ensures { view_moved result job.new ring.new fram.new ≡ advance this_firmware ring.old fram.old (advances pages slots job.old staging.now) }
 {
-    let j = *job;
-    let a = j.advance(pages, slots, ring, fram, staging);
-    *job = a.job;
-    Moved {
-        progress: a.progress,
-        session: a.session,
-    }
+    let Advanced {
+        progress,
+        job: next,
+    } = job.advance(pages, slots, ring, fram, staging)?;
+    *job = next;
+    Ok(progress)
 }

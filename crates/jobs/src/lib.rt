@@ -9,4 +9,4 @@ mod word;
 
 pub use job::{no_job, no_session};
 pub use lent::advance_lent;
-pub use types::{Advanced, Job, Moved, Origin, Phase, Progress, Session, Start, Started};
+pub use types::{Advanced, Job, Origin, Phase, Progress, Session, Target};

@@ -1,6 +1,5 @@
 // What the calls take and answer (document 01, "What the unit calls"). specs/View.antt says what each stands for.
 use octets::limits::{NONCE_LENGTH, SLOT_LENGTH, TAG_LENGTH};
-use stops::Stop;
 
 // The next store of a job: the page to erase, or the number of the word to copy.
 #[derive(Clone, Copy)]
@@ -17,6 +16,14 @@ pub enum Phase {
 pub enum Origin {
     Save,
     PowerUp,
+}
+
+// Where a job stores: a half, and a slot of a page for the record.
+#[derive(Clone, Copy)]
+pub struct Target {
+    pub half: usize,
+    pub page: usize,
+    pub slot: usize,
 }
 
 // A checkpoint on its way into the memories. Half 0 is A and half 1 is B; `length` is the checkpoint's in bytes; page and
@@ -46,40 +53,17 @@ pub struct Session {
     pub packet: usize,
 }
 
-// What an advance says.
+// How far an advance brought a job: it goes on, or it has ended, with the new session.
 #[derive(Clone, Copy)]
 pub enum Progress {
     GoingOn,
-    Saved,
-    Restored,
-    Refused(Stop),
+    Saved(Session),
+    Restored(Session),
 }
 
-// What an advance answers. The session is one where the progress is Saved or Restored, and else all zeros.
+// What an advance answers: how far it came, and the job moved on.
 #[derive(Clone, Copy)]
 pub struct Advanced {
     pub progress: Progress,
-    pub job: Job,
-    pub session: Session,
-}
-
-// What an advance of a lent job answers.
-#[derive(Clone, Copy)]
-pub struct Moved {
-    pub progress: Progress,
-    pub session: Session,
-}
-
-// What a start says.
-#[derive(Clone, Copy)]
-pub enum Start {
-    Begun,
-    Stopped(Stop),
-}
-
-// What a save answers. Beside a stop the job is done, and all else in it zero.
-#[derive(Clone, Copy)]
-pub struct Started {
-    pub start: Start,
     pub job: Job,
 }

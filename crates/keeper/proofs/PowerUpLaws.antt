@@ -1,6 +1,6 @@
 -- The stops of power-up, stage by stage, and what it answers. Assumes nothing.
 use Prim.Native.Nat.{ℕ, ◌-◌, ◌<◌, ◌≤◌}
-use mathlib.Core.Path.{◌≡◌, sym, ◌∙◌}
+use mathlib.Core.Path.{◌≡◌, sym, ap, ◌∙◌}
 use mathlib.Core.Bool.{Bool, true, false, not, ◌||◌}
 use mathlib.Core.Option.{Option, none, some}
 use mathlib.Core.List.{List, [], ◌∷◌, ◌++◌}
@@ -19,7 +19,11 @@ use Rattle.checkpoint.specs.Checkpoint.{Older, Longer, empty_length}
 use Rattle.checkpoint.specs.Fram.{fram_wrong, half_length}
 use Rattle.checkpoint.specs.Half.{form_of, good_head, good_tag, stored}
 use Rattle.checkpoint.proofs.FramLaws.{an_image}
+use Rattle.ring.specs.View as ring-view
+use Rattle.ring.specs.declared.found.Reading.{Reading}
 use Rattle.memories.specs.Stages.{of_memories, of_newest}
+use Rattle.memories.specs.Read.{ReadFrom}
+use Rattle.memories.proofs.ReadLaws.{found_is}
 use Rattle.protocol.specs.Types.{Phase, PowerUp, this_firmware}
 use Rattle.protocol.specs.Calls.{PowersUp}
 use Rattle.protocol.specs.Operations.{key_wrong, nonce_wrong, staging_wrong, state_wrong, Begin, begin, job_of, resumed, first_phase, newest_half, newest_checkpoint, half_lines, power_up_stop, power_up}
@@ -113,6 +117,10 @@ module _ (ring fram : List ℕ) (a : PowersUp) where
   pub on_record : (rec : List ℕ) (x : Bool) → rec ≡ newest → x ≡ used → first_of (power_up_buffers ring fram a) ≡ none → first_of ring_lines ≡ none → power_up_stop this_firmware ring fram a ≡ first_of (power_up_half a.key rec fram x)
   unfolding newest_half
   on_record rec x r y e f = on_head e f ∙ (λ i. first_of (power_up_half a.key (sym r i) fram (sym y i)))
+
+  -- on a ring that was read
+  pub ring_tried : (r : Reading) (o : Option ℕ) → ReadFrom r a.sizes.pages a.sizes.slots ring → o ≡ first_of (of_newest (ring-view.newest r.found)) → o ≡ first_of ring_lines
+  ring_tried r o e f = f ∙ ap (λ (n : Newest). first_of (of_newest n)) (found_is r a.sizes.pages a.sizes.slots ring e)
 
   -- the newest record names a half
   pub names_half : ring_wrong a.sizes.pages a.sizes.slots ring ≡ false → first_of ring_lines ≡ none → half_named newest < 2

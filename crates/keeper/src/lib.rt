@@ -7,11 +7,9 @@ mod resuming;
 mod types;
 
 pub use buffers::wipe;
-pub use jobs::{
-    Advanced, Job, Moved, Origin, Phase, Progress, Session, Start, Started, advance_lent, no_job,
-    no_session,
-};
-pub use look::{Looked, Seen, look, open_part, see};
+pub use jobs::{Advanced, Job, Origin, Phase, Progress, Session, advance_lent, no_job, no_session};
+pub use look::{Seen, look, open_part, see};
+pub use memories::Memories;
 pub use resuming::{power_up, power_up_check};
-pub use saves::{From, Given, from_session, from_tag};
+pub use saves::{Draft, From, Given, from_session, from_tag};
 pub use types::PoweredUp;

@@ -1,10 +1,9 @@
 // What power-up answers (document 01, "What the unit calls"). specs/View.antt says what it stands for.
-use jobs::{Job, Start};
+use jobs::Job;
 
-// What a power-up answers; `length` is the secret part's.
+// The job that a power-up begins, and the secret part's length.
 #[derive(Clone, Copy)]
 pub struct PoweredUp {
-    pub start: Start,
     pub job: Job,
     pub length: usize,
 }

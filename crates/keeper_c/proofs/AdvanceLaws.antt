@@ -4,6 +4,7 @@ use mathlib.Core.Path.{◌≡◌, refl, sym, ap, ◌∙◌}
 use mathlib.Core.Bool.{Bool, true, false, cond, ◌||◌}
 use mathlib.Core.Option.{Option, none, some}
 use mathlib.Core.List.{List, [], ◌∷◌}
+use Rattle.std.proofs.Common.{Ok}
 use borrow.Author.Tests.{eq-eqb, ne_eqb}
 use lib.ListN.{length}
 use Rattle.octets.specs.Limits.{fram_limit}
@@ -18,6 +19,9 @@ use Rattle.protocol.specs.Calls.{Sizes, Advances}
 use Rattle.protocol.specs.Operations.{Moved, staging_wrong, job_wrong, advance_stop, going_on, finished, ended, recorded, erase_follows, after_record, store, advance_by, advance}
 use Rattle.protocol.proofs.Facts.{no_fact}
 use Rattle.protocol.proofs.FreeResults.{no_job_wrong}
+use Rattle.jobs.specs.declared.types.Progress as answers
+use Rattle.jobs.specs.declared.types.Progress.TheVariants as code
+use Rattle.jobs.specs.View.{view_progress}
 use Rattle.job_bytes.specs.Bytes.{job_length, session_length, job_bytes, no_job_in, job_in}
 use Rattle.job_bytes.proofs.BytesLaws.{job_long, unread}
 use Rattle.keeper_c.specs.Calls.{Advancing, answer, progress_number, session_after, advances_in, advancing_left, advancing_by, advance_call_stop, advance_call}
@@ -51,6 +55,17 @@ job_goes GoingOn made job e = refl
 job_goes Saved made job e = refl
 job_goes Restored made job e = refl
 job_goes (Refused n) made job e = no_fact (sym e)
+
+-- an answer that is no stop
+pub on_goes : (p : answers.Progress) → goes (view_progress (Ok p)) ≡ true
+on_goes code.GoingOn = refl
+on_goes (code.Saved s) = refl
+on_goes (code.Restored s) = refl
+
+pub on_moves : (p : answers.Progress) (made : Job) (job : List ℕ) → job_bytes made ≡ job_moved (view_progress (Ok p)) made job
+on_moves code.GoingOn made job = refl
+on_moves (code.Saved s) made job = refl
+on_moves (code.Restored s) made job = refl
 
 goes_by : (S : Option ℕ) (ring fram : List ℕ) (a : Advances) → goes (advance_by S ring fram a).progress ≡ true → S ≡ none
 unfolding advance_by

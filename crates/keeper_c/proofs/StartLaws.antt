@@ -8,7 +8,7 @@ use borrow.Author.Tests.{eq-eqb, ne_eqb}
 use lib.ListN.{length}
 use Rattle.stops.specs.Stops.{then_stop}
 use Rattle.checkpoint.specs.Checkpoint.{Checkpoint}
-use Rattle.protocol.specs.Types.{Job, Start, Begun, Stopped, this_firmware}
+use Rattle.protocol.specs.Types.{Job, this_firmware}
 use Rattle.protocol.specs.Calls.{Saves, PowersUp}
 use Rattle.protocol.specs.Operations.{Begin, begin, save_stop, save, power_up_stop, power_up}
 use Rattle.job_bytes.specs.Bytes.{job_length}
@@ -67,8 +67,3 @@ module _ (ring fram job : List ℕ) where
         → k' ≡ length_after B.answer B.secret_length k → starting_left r B.staging B.state job' k' ≡ power_up_call ring fram a job k
     unfolding power_up_call power_up
     power_up_good a k k' m h g n = good _ _ _ _ _ _ _ job k l B m r k' job' h g n
-
--- nothing was restored, and nothing is
-pub no_length : (s : Start) → 0 ≡ length_after s 0 0
-no_length Begun = refl
-no_length (Stopped n) = refl

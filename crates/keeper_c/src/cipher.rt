@@ -8,20 +8,20 @@ ghost use Rattle.keeper_c.specs.Calls.{answer, sealing_call, sealing_left};
 
 use gcm::{open, seal, tag_wrong};
 use octets::copy;
-use stops::{Check, Stop, stop_number};
+use stops::{Stop, StopIf, stop_number};
 
 // 0, or the number of the stop.
-pub(crate) fn answer(check: Check) -> u32
+pub(crate) fn answer(check: Result<(), Stop>) -> u32
     ensures { result ≡ answer (check_number check) }
 {
     match check {
-        Check::Pass => 0,
-        Check::Stopped(stop) => stop_number(stop),
+        Ok(()) => 0,
+        Err(stop) => stop_number(stop),
     }
 }
 
 // The number of a check's stop, or of the one given, which holds, where the check passed.
-pub(crate) fn stopped(check: Check, stop: Stop) -> u32
+pub(crate) fn stopped(check: Result<(), Stop>, stop: Stop) -> u32
     ensures { result ≡ answer (then_stop (check_number check) (stop_number stop) true) }
 {
     answer(check.stop_if(true, stop))
@@ -42,12 +42,9 @@ pub extern "C" fn keeper_seal(
     if tag_wrong(tag.len()) {
         return stop_number(Stop::KeyNonceTagSize);
     }
-    let sealed = seal(key, nonce, aad, text, out);
-    let check = sealed.check;
-    match check {
-        Check::Stopped(stop) => stop_number(stop),
-        Check::Pass => {
-            let made = sealed.tag;
+    match seal(key, nonce, aad, text, out) {
+        Err(stop) => stop_number(stop),
+        Ok(made) => {
             copy(&made, tag);
             0
         }

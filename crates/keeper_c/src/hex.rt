@@ -5,19 +5,17 @@ ghost use Rattle.keeper_c.specs.Calls.{answer, export_call, exporting_left};
 
 use crate::cipher::answer;
 use intel_hex::{export_image, import_image};
-use stops::{Check, stop_number};
+use stops::stop_number;
 
 // Writes an image as Intel HEX to the front of `text`, and its length to `written`.
 #[unsafe(no_mangle)]
 pub extern "C" fn keeper_hex_export(image: &[u8], text: &mut [u8], written: &mut usize) -> u32
     ensures { exporting_left result text.new written.new ≡ export_call image.now text.old written.old }
 {
-    let exported = export_image(image, text);
-    let check = exported.check;
-    match check {
-        Check::Stopped(stop) => stop_number(stop),
-        Check::Pass => {
-            *written = exported.written;
+    match export_image(image, text) {
+        Err(stop) => stop_number(stop),
+        Ok(n) => {
+            *written = n;
             0
         }
     }

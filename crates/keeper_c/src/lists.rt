@@ -4,7 +4,7 @@ ghost use Rattle.settings.specs.Settings.{settings_write};
 ghost use Rattle.keeper_c.specs.Calls.{answer, settings_call, settings_left};
 
 use crate::cipher::answer;
-use settings::{Settings, settings_read, settings_write};
+use settings::{settings_read, settings_write};
 use stops::stop_number;
 
 // The volume and the alert delay of a list.
@@ -12,15 +12,11 @@ use stops::stop_number;
 pub extern "C" fn keeper_settings_read(list: &[u8], volume: &mut u32, delay: &mut u32) -> u32
     ensures { settings_left result volume.new delay.new ≡ settings_call list.now volume.old delay.old }
 {
-    let settings = settings_read(list);
-    match settings {
-        Settings::Unread(stop) => stop_number(stop),
-        Settings::Read {
-            volume: v,
-            delay: d,
-        } => {
-            *volume = v;
-            *delay = d;
+    match settings_read(list) {
+        Err(stop) => stop_number(stop),
+        Ok(settings) => {
+            *volume = settings.volume;
+            *delay = settings.delay;
             0
         }
     }

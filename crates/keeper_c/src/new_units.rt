@@ -6,6 +6,7 @@ ghost use Rattle.keeper_c.specs.Calls.{answer};
 
 use crate::cipher::answer;
 use factory::factory_check;
+use memories::Memories;
 
 // Checks a ring and a FRAM image that should be what a first save leaves; what it answers is said in factory.
 #[unsafe(no_mangle)]
@@ -18,5 +19,11 @@ pub extern "C" fn keeper_factory_check(
 ) -> u32
     ensures { result ≡ answer (factory_stop ring.now fram.now (looks pages slots key.now)) }
 {
-    answer(factory_check(pages, slots, ring, fram, key))
+    let memories = Memories {
+        pages,
+        slots,
+        ring,
+        fram,
+    };
+    answer(factory_check(&memories, key))
 }

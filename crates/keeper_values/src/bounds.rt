@@ -4,14 +4,22 @@ ghost use Rattle.std.specs.Prelude.{◌≤◌};
 
 use crate::print::{print, print_start};
 use crate::values::{long_key, starting_tag};
-use keeper::{From, from_tag, power_up};
+use keeper::{Draft, From, Memories, from_tag, power_up};
 use octets::limits::PART_LIMIT;
 use octets::part;
+use stops::Stop;
+
+// Prints a line of what a start said.
+fn say<T: Drop>(rt: &impl Print, name: &str, started: Result<T, Stop>) {
+    print(rt, name.as_bytes());
+    print_start(rt, ": ", started);
+    print(rt, b"\n");
+}
 
 // Begins a save and prints what it says; staging is long enough for every FRAM that is tried.
 fn begin(
     rt: &impl Print,
-    name: &[u8],
+    name: &str,
     pages: usize,
     ring: &[u8],
     fram: &[u8],
@@ -21,28 +29,26 @@ fn begin(
     secret: &[u8],
 ) {
     let mut staging = [0u8; 131_076];
-    let started = from.save(
+    let memories = Memories {
         pages,
-        2,
+        slots: 2,
         ring,
         fram,
-        &long_key(),
-        &[1u8; 12],
+    };
+    let draft = Draft {
+        key: &long_key(),
+        nonce: &[1u8; 12],
         packet,
-        open,
+        open_part: open,
         secret,
-        &mut staging,
-    );
-    let start = started.start;
-    print(rt, name);
-    print_start(rt, b": ", start);
-    print(rt, b"\n");
+    };
+    say(rt, name, from.save(&memories, &draft, &mut staging));
 }
 
 // A first save on a blank ring of pages of 2 slots.
 fn try_first_save(
     rt: &impl Print,
-    name: &[u8],
+    name: &str,
     pages: usize,
     fram: usize,
     packet: usize,
@@ -68,7 +74,7 @@ fn try_first_save(
 }
 
 // A save with a starting tag of a number of bytes.
-fn try_tag(rt: &impl Print, name: &[u8], length: usize)
+fn try_tag(rt: &impl Print, name: &str, length: usize)
     requires { length ≤ 17 }
 {
     let ring = [0xFFu8; 96];
@@ -88,23 +94,17 @@ fn try_tag(rt: &impl Print, name: &[u8], length: usize)
 }
 
 // Begins a power-up with a ring of 4 pages of 2 slots and prints what it says.
-fn try_power_up(rt: &impl Print, name: &[u8], ring: &[u8], state: &mut [u8]) {
+fn try_power_up(rt: &impl Print, name: &str, ring: &[u8], state: &mut [u8]) {
     let fram = [0u8; 128];
     let mut staging = [0u8; 64];
-    let p = power_up(
-        4,
-        2,
+    let memories = Memories {
+        pages: 4,
+        slots: 2,
         ring,
-        &fram,
-        &long_key(),
-        &[1u8; 12],
-        &mut staging,
-        state,
-    );
-    let start = p.start;
-    print(rt, name);
-    print_start(rt, b": ", start);
-    print(rt, b"\n");
+        fram: &fram,
+    };
+    let powered = power_up(&memories, &long_key(), &[1u8; 12], &mut staging, state);
+    say(rt, name, powered);
 }
 
 // With a blank ring, which gives 6 where the state buffer is long enough.
@@ -113,14 +113,14 @@ pub fn show_state_bounds(rt: &impl Print) {
     let mut short = [0u8; 32_767];
     try_power_up(
         rt,
-        b"state buffer of 32767 bytes, power-up",
+        "state buffer of 32767 bytes, power-up",
         &ring,
         &mut short,
     );
     let mut state = [0u8; 32_768];
     try_power_up(
         rt,
-        b"state buffer of 32768 bytes, power-up",
+        "state buffer of 32768 bytes, power-up",
         &ring,
         &mut state,
     );
@@ -134,59 +134,59 @@ pub fn show_parted_ring(rt: &impl Print) {
     let mut state = [0u8; PART_LIMIT];
     try_power_up(
         rt,
-        b"pages 0 and 2 of 4 not blank, power-up",
+        "pages 0 and 2 of 4 not blank, power-up",
         &ring,
         &mut state,
     );
 }
 
 pub fn show_fram_bounds(rt: &impl Print) {
-    try_first_save(rt, b"FRAM of 80 bytes", 3, 80, 0, 0, 0);
-    try_first_save(rt, b"FRAM of 84 bytes", 3, 84, 0, 0, 0);
-    try_first_save(rt, b"FRAM of 88 bytes, empty parts", 3, 88, 0, 0, 0);
-    try_first_save(rt, b"FRAM of 96 bytes, empty parts", 3, 96, 0, 0, 0);
-    try_first_save(rt, b"FRAM of 96 bytes, a word of open part", 3, 96, 0, 4, 0);
+    try_first_save(rt, "FRAM of 80 bytes", 3, 80, 0, 0, 0);
+    try_first_save(rt, "FRAM of 84 bytes", 3, 84, 0, 0, 0);
+    try_first_save(rt, "FRAM of 88 bytes, empty parts", 3, 88, 0, 0, 0);
+    try_first_save(rt, "FRAM of 96 bytes, empty parts", 3, 96, 0, 0, 0);
+    try_first_save(rt, "FRAM of 96 bytes, a word of open part", 3, 96, 0, 4, 0);
     try_first_save(
         rt,
-        b"FRAM of 96 bytes, a word of secret part",
+        "FRAM of 96 bytes, a word of secret part",
         3,
         96,
         0,
         0,
         4,
     );
-    try_first_save(rt, b"FRAM of 262144 bytes", 3, 262_144, 0, 0, 0);
-    try_first_save(rt, b"FRAM of 262152 bytes", 3, 262_152, 0, 0, 0);
+    try_first_save(rt, "FRAM of 262144 bytes", 3, 262_144, 0, 0, 0);
+    try_first_save(rt, "FRAM of 262152 bytes", 3, 262_152, 0, 0, 0);
 }
 
 pub fn show_page_bounds(rt: &impl Print) {
-    try_first_save(rt, b"2 pages", 2, 128, 0, 0, 0);
-    try_first_save(rt, b"3 pages", 3, 128, 0, 0, 0);
-    try_first_save(rt, b"32 pages", 32, 128, 0, 0, 0);
-    try_first_save(rt, b"33 pages", 33, 128, 0, 0, 0);
+    try_first_save(rt, "2 pages", 2, 128, 0, 0, 0);
+    try_first_save(rt, "3 pages", 3, 128, 0, 0, 0);
+    try_first_save(rt, "32 pages", 32, 128, 0, 0, 0);
+    try_first_save(rt, "33 pages", 33, 128, 0, 0, 0);
 }
 
 pub fn show_tag_bounds(rt: &impl Print) {
-    try_tag(rt, b"starting tag of 15 bytes", 15);
-    try_tag(rt, b"starting tag of 16 bytes", 16);
-    try_tag(rt, b"starting tag of 17 bytes", 17);
+    try_tag(rt, "starting tag of 15 bytes", 15);
+    try_tag(rt, "starting tag of 16 bytes", 16);
+    try_tag(rt, "starting tag of 17 bytes", 17);
 }
 
 pub fn show_part_bounds(rt: &impl Print) {
-    try_first_save(rt, b"open part of 32768 bytes", 3, 262_144, 0, 32_768, 0);
-    try_first_save(rt, b"open part of 32769 bytes", 3, 262_144, 0, 32_769, 0);
-    try_first_save(rt, b"open part of 32772 bytes", 3, 262_144, 0, 32_772, 0);
-    try_first_save(rt, b"secret part of 32768 bytes", 3, 262_144, 0, 0, 32_768);
-    try_first_save(rt, b"secret part of 32769 bytes", 3, 262_144, 0, 0, 32_769);
-    try_first_save(rt, b"secret part of 32772 bytes", 3, 262_144, 0, 0, 32_772);
+    try_first_save(rt, "open part of 32768 bytes", 3, 262_144, 0, 32_768, 0);
+    try_first_save(rt, "open part of 32769 bytes", 3, 262_144, 0, 32_769, 0);
+    try_first_save(rt, "open part of 32772 bytes", 3, 262_144, 0, 32_772, 0);
+    try_first_save(rt, "secret part of 32768 bytes", 3, 262_144, 0, 0, 32_768);
+    try_first_save(rt, "secret part of 32769 bytes", 3, 262_144, 0, 0, 32_769);
+    try_first_save(rt, "secret part of 32772 bytes", 3, 262_144, 0, 0, 32_772);
 }
 
 pub fn show_packet_bounds(rt: &impl Print) {
-    try_first_save(rt, b"packet number 1073741823", 3, 128, 1_073_741_823, 0, 0);
-    try_first_save(rt, b"packet number 1073741824", 3, 128, 1_073_741_824, 0, 0);
+    try_first_save(rt, "packet number 1073741823", 3, 128, 1_073_741_823, 0, 0);
+    try_first_save(rt, "packet number 1073741824", 3, 128, 1_073_741_824, 0, 0);
     try_first_save(
         rt,
-        b"packet number 1073741824, FRAM of 88 bytes",
+        "packet number 1073741824, FRAM of 88 bytes",
         3,
         88,
         1_073_741_824,

@@ -5,7 +5,6 @@ ghost use Rattle.std.specs.Prelude.{◌<◌};
 use crate::print::print;
 use crate::unit::{do_first_save, do_power_up, do_save};
 use keeper::{Session, no_session};
-use octets::{copy, part};
 
 // A checkpoint's 15 words and its record. A record that opens a page has the page before erased, one store more.
 pub const STORES: usize = 16;
@@ -48,9 +47,8 @@ fn save_around(
     fram: &mut [u8],
 ) -> Session {
     let mut s = first;
-    for k in 0..3u8 {
-        let next = save_twice(rt, key, s, 2 * k + 2, ring, fram);
-        s = next;
+    for value in [2, 4, 6] {
+        s = save_twice(rt, key, s, value, ring, fram);
     }
     s
 }
@@ -79,16 +77,15 @@ fn restart(
     fram: &mut [u8],
 ) -> Session {
     let mut s = last;
-    for k in 0..4u8 {
-        let next = power_up_twice(rt, key, s, 2 * k + 8, ring, fram);
-        s = next;
+    for nonce in [8, 10, 12, 14] {
+        s = power_up_twice(rt, key, s, nonce, ring, fram);
     }
     s
 }
 
 fn set_byte(image: &mut [u8], at: usize, b: u8) {
-    if at < image.len() {
-        image[at] = b;
+    if let Some(byte) = image.get_mut(at) {
+        *byte = b;
     }
 }
 
@@ -173,14 +170,10 @@ fn lose_words(
 
 // A session that names what stands at page 0 slot 0.
 fn session_of_first_slot(ring: &[u8], restarts: usize) -> Session {
-    let mut latest = [0u8; 16];
-    if 16 <= ring.len() {
-        copy(part(ring, 0, 16), &mut latest);
-    }
     Session {
         page: 0,
         slot: 0,
-        latest,
+        latest: ring.first_chunk().copied().unwrap_or([0u8; 16]),
         tag: [0u8; 16],
         restarts,
         packet: 0,

@@ -11,7 +11,7 @@ mod updated;
 mod values;
 
 use keeper::wipe;
-use print::{print, print_bytes, print_number};
+use print::{print, print_bytes};
 use values::{long_key, short_key};
 
 fn show_bounds(rt: &impl Print) {
@@ -25,8 +25,7 @@ fn show_bounds(rt: &impl Print) {
 }
 
 fn show_unit(rt: &impl Print, key: &[u8]) {
-    print_number(rt, b"a unit with a key of ", key.len());
-    print(rt, b" bytes\n");
+    let _ = print!(rt; "a unit with a key of {} bytes\n", key.len());
     keys::show_keys(rt, key);
     let mut ring = [0xFFu8; 96];
     let mut fram = [0u8; 128];

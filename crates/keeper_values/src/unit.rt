@@ -1,32 +1,40 @@
 // A unit with a key and a ring of 3 pages of 2 slots, an open part of 8 bytes and a secret part of 4: its calls, each with a line that says
 // what it answered, what look and its companion then give, and the ring's state.
-use crate::print::{print, print_bytes, print_front, print_number, print_progress, print_stop};
+use crate::print::{print, print_bytes, print_progress, print_stop};
 use crate::values::{PAGES, SLOTS, starting_tag};
 use keeper::{
-    Advanced, From, Job, Looked, PoweredUp, Session, Start, Started, from_session, from_tag, look,
-    no_session, open_part,
+    Draft, From, Job, Memories, PoweredUp, Progress, Session, advance_lent, from_session, from_tag,
+    look, no_session, open_part, power_up,
 };
 use octets::limits::PART_LIMIT;
 use ring_line::ring_line;
+use stops::Stop;
+
+// The unit's memories, as the keeper's calls read them.
+fn memories<'a>(ring: &'a [u8], fram: &'a [u8]) -> Memories<'a> {
+    Memories {
+        pages: PAGES,
+        slots: SLOTS,
+        ring,
+        fram,
+    }
+}
 
 pub fn print_looked(rt: &impl Print, key: &[u8], ring: &[u8], fram: &[u8]) {
-    let looked = look(PAGES, SLOTS, ring, fram, key);
-    match looked {
-        Looked::Restarts(n) => {
-            print_number(rt, b"; restarts ", n);
-            print(rt, b"; open part ");
-            print_bytes(rt, open_part(PAGES, SLOTS, ring, fram, key));
+    let memories = memories(ring, fram);
+    match look(&memories, key) {
+        Ok(restarts) => {
+            let _ = print!(rt; "; restarts {restarts}; open part ");
+            print_bytes(rt, open_part(&memories, key));
         }
-        Looked::Unseen(stop) => print_stop(rt, b"; look stopped ", stop),
+        Err(stop) => print_stop(rt, "; look stopped ", stop),
     }
 }
 
 fn print_ring(rt: &impl Print, ring: &[u8]) {
     print(rt, b"; ");
     let line = ring_line(ring, PAGES, SLOTS);
-    let bytes = line.bytes;
-    let length = line.length;
-    let _ = rt.write_all(&bytes[..length]);
+    print(rt, line.as_bytes());
 }
 
 pub fn print_memories(rt: &impl Print, key: &[u8], ring: &[u8], fram: &[u8]) {
@@ -34,44 +42,43 @@ pub fn print_memories(rt: &impl Print, key: &[u8], ring: &[u8], fram: &[u8]) {
     print_ring(rt, ring);
 }
 
-// One advance.
-fn next_job(job: Job, ring: &mut [u8], fram: &mut [u8], staging: &[u8]) -> Job {
-    let a = job.advance(PAGES, SLOTS, ring, fram, staging);
-    a.job
-}
-
-// A number of advances, at least one; answers the last.
-fn run(job: Job, advances: usize, ring: &mut [u8], fram: &mut [u8], staging: &[u8]) -> Advanced {
-    let mut j = job;
+// A number of advances, at least one; answers what the last said.
+fn run(
+    job: Job,
+    advances: usize,
+    ring: &mut [u8],
+    fram: &mut [u8],
+    staging: &[u8],
+) -> Result<Progress, Stop> {
+    let mut job = job;
     for _ in 1..advances {
-        let next = next_job(j, ring, fram, staging);
-        j = next;
+        let _ = advance_lent(&mut job, PAGES, SLOTS, ring, fram, staging);
     }
-    j.advance(PAGES, SLOTS, ring, fram, staging)
+    advance_lent(&mut job, PAGES, SLOTS, ring, fram, staging)
 }
 
 // Runs the job of a start for a number of advances. Answers the session that it handed out, or after a stop the one given.
 fn carry_out(
     rt: &impl Print,
-    started: Started,
+    started: Result<Job, Stop>,
     session: Session,
     advances: usize,
     ring: &mut [u8],
     fram: &mut [u8],
     staging: &[u8],
 ) -> Session {
-    let start = started.start;
-    match start {
-        Start::Stopped(stop) => {
-            print_stop(rt, b": stopped ", stop);
+    match started {
+        Err(stop) => {
+            print_stop(rt, ": stopped ", stop);
             session
         }
-        Start::Begun => {
-            let job = started.job;
-            let a = run(job, advances, ring, fram, staging);
-            let progress = a.progress;
-            print_progress(rt, progress, advances);
-            a.session
+        Ok(job) => {
+            let said = run(job, advances, ring, fram, staging);
+            print_progress(rt, said, advances);
+            match said {
+                Ok(Progress::Saved(next) | Progress::Restored(next)) => next,
+                Ok(Progress::GoingOn) | Err(_) => no_session(),
+            }
         }
     }
 }
@@ -85,19 +92,35 @@ pub fn start_save(
     ring: &[u8],
     fram: &[u8],
     staging: &mut [u8],
-) -> Started {
-    from.save(
-        PAGES,
-        SLOTS,
-        ring,
-        fram,
+) -> Result<Job, Stop> {
+    let draft = Draft {
         key,
-        &[nonce; 12],
+        nonce: &[nonce; 12],
         packet,
-        &[value; 8],
-        &[value; 4],
-        staging,
-    )
+        open_part: &[value; 8],
+        secret: &[value; 4],
+    };
+    from.save(&memories(ring, fram), &draft, staging)
+}
+
+// A save, with what it follows and the session before.
+fn do_save_from(
+    rt: &impl Print,
+    key: &[u8],
+    from: From,
+    session: Session,
+    packet: usize,
+    value: u8,
+    nonce: u8,
+    advances: usize,
+    ring: &mut [u8],
+    fram: &mut [u8],
+) -> Session {
+    let mut staging = [0u8; 64];
+    let started = start_save(key, from, packet, value, nonce, ring, fram, &mut staging);
+    let next = carry_out(rt, started, session, advances, ring, fram, &staging);
+    print_memories(rt, key, ring, fram);
+    next
 }
 
 // A save with a starting tag, and below one with a session, with a packet number of the value's.
@@ -110,23 +133,19 @@ pub fn do_first_save(
     ring: &mut [u8],
     fram: &mut [u8],
 ) -> Session {
-    print_number(rt, b"first save of ", value as usize);
-    let mut staging = [0u8; 64];
-    let from = from_tag(&starting_tag());
-    let started = start_save(
+    let _ = print!(rt; "first save of {value}");
+    do_save_from(
+        rt,
         key,
-        from,
+        from_tag(&starting_tag()),
+        no_session(),
         value as usize,
         value,
         nonce,
+        advances,
         ring,
         fram,
-        &mut staging,
-    );
-    let none = no_session();
-    let next = carry_out(rt, started, none, advances, ring, fram, &staging);
-    print_memories(rt, key, ring, fram);
-    next
+    )
 }
 
 pub fn do_save(
@@ -164,14 +183,19 @@ pub fn do_save_hearing(
     ring: &mut [u8],
     fram: &mut [u8],
 ) -> Session {
-    print_number(rt, b"save of ", value as usize);
-    print_number(rt, b", packet ", packet);
-    let mut staging = [0u8; 64];
-    let from = from_session(session);
-    let started = start_save(key, from, packet, value, nonce, ring, fram, &mut staging);
-    let next = carry_out(rt, started, session, advances, ring, fram, &staging);
-    print_memories(rt, key, ring, fram);
-    next
+    let _ = print!(rt; "save of {value}, packet {packet}");
+    do_save_from(
+        rt,
+        key,
+        from_session(session),
+        session,
+        packet,
+        value,
+        nonce,
+        advances,
+        ring,
+        fram,
+    )
 }
 
 pub fn start_power_up(
@@ -181,39 +205,11 @@ pub fn start_power_up(
     fram: &[u8],
     staging: &mut [u8],
     state: &mut [u8],
-) -> PoweredUp {
-    keeper::power_up(PAGES, SLOTS, ring, fram, key, &[nonce; 12], staging, state)
+) -> Result<PoweredUp, Stop> {
+    power_up(&memories(ring, fram), key, &[nonce; 12], staging, state)
 }
 
-// Runs the job of a power-up, and prints the secret part that the state begins with.
-fn carry_on(
-    rt: &impl Print,
-    powered: PoweredUp,
-    session: Session,
-    advances: usize,
-    ring: &mut [u8],
-    fram: &mut [u8],
-    staging: &[u8],
-    state: &[u8],
-) -> Session {
-    let start = powered.start;
-    let job = powered.job;
-    let next = carry_out(
-        rt,
-        Started { start, job },
-        session,
-        advances,
-        ring,
-        fram,
-        staging,
-    );
-    if powered.length > 0 {
-        print(rt, b"; state ");
-        print_front(rt, state, powered.length);
-    }
-    next
-}
-
+// A power-up. Where it has a secret part, that is printed, from the front of the state.
 pub fn do_power_up(
     rt: &impl Print,
     key: &[u8],
@@ -227,7 +223,15 @@ pub fn do_power_up(
     let mut staging = [0u8; 64];
     let mut state = [0u8; PART_LIMIT];
     let powered = start_power_up(key, nonce, ring, fram, &mut staging, &mut state);
-    let next = carry_on(rt, powered, session, advances, ring, fram, &staging, &state);
+    let started = powered.map(|powered| powered.job);
+    let next = carry_out(rt, started, session, advances, ring, fram, &staging);
+    let length = powered.map_or(0, |powered| powered.length);
+    if let Some(secret) = state.get(..length)
+        && 0 < length
+    {
+        print(rt, b"; state ");
+        print_bytes(rt, secret);
+    }
     print_memories(rt, key, ring, fram);
     next
 }

@@ -5,4 +5,4 @@ mod looking;
 mod types;
 
 pub use looking::{check_half, find, look, open_part, see};
-pub use types::{Found, Looked, Seen};
+pub use types::Seen;

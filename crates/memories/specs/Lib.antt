@@ -1,2 +1,3 @@
 -- The stops that calls have in common.
 pub mod Stages
+pub mod Read

@@ -1,30 +1,63 @@
-// The stops that calls have in common: those of both memories, which every call on them tries first, and those of what a ring reads as.
+// Both memories as the calls read them, and the stops that calls have in common: those of the memories, which every call on them tries first,
+// and those of what a ring reads as.
 #![tactic(auto)]
 
-ghost use Rattle.std.specs.Prelude.{◌≡◌};
+ghost use Rattle.std.specs.Prelude.{◌≡◌, false};
 ghost use Rattle.stops.specs.Stops.{first_of};
 ghost use Rattle.stops.specs.View.{check_number};
+ghost use Rattle.ring.specs.Ring.{ring_wrong};
 ghost use Rattle.ring.specs.View.{newest};
+ghost use Rattle.memories.specs.Read.{ReadFrom};
 ghost use Rattle.memories.specs.Stages.{of_memories, of_newest};
 
 use checkpoint::fram::fram_wrong;
-use ring::{Newest, ring_wrong};
-use stops::{Check, Stop};
+use ring::{Newest, Reading, Ring, ring_wrong};
+use stops::{Stop, StopIf};
 
-// Stops 1 and 2.
-pub fn check_memories(ring: &[u8], pages: usize, slots: usize, fram: &[u8]) -> Check
-    ensures { check_number result ≡ first_of (of_memories pages slots ring.now fram.now) }
-{
-    Check::Pass
-        .stop_if(ring_wrong(ring, pages, slots), Stop::RingSize)
-        .stop_if(fram_wrong(fram), Stop::FramSize)
+// A ring of so many pages of so many slots, and the FRAM, as images.
+#[derive(Clone, Copy)]
+pub struct Memories<'a> {
+    pub pages: usize,
+    pub slots: usize,
+    pub ring: &'a [u8],
+    pub fram: &'a [u8],
+}
+
+impl<'a> Memories<'a> {
+    // Stops 1 and 2.
+    pub fn check(&self) -> Result<(), Stop>
+        ensures { check_number result ≡ first_of (of_memories self.now.pages self.now.slots self.now.ring.now self.now.fram.now) }
+    {
+        Ok(())
+            .stop_if(
+                ring_wrong(self.ring, self.pages, self.slots),
+                Stop::RingSize,
+            )
+            .stop_if(fram_wrong(self.fram), Stop::FramSize)
+    }
+
+    // What the ring reads as, where stop 1 does not apply.
+    pub fn read(&self) -> Reading<'a>
+        requires { ring_wrong self.now.pages self.now.slots self.now.ring.now ≡ false }
+        ensures { ReadFrom result self.now.pages self.now.slots self.now.ring.now }
+    {
+        let ring = Ring {
+            bytes: self.ring,
+            pages: self.pages,
+            slots: self.slots,
+        };
+        Reading {
+            ring,
+            found: ring.read(),
+        }
+    }
 }
 
 // Stops 6 and 7, of a ring that reads as `found`.
-pub fn check_newest(found: Newest) -> Check
+pub fn check_newest(found: Newest) -> Result<(), Stop>
     ensures { check_number result ≡ first_of (of_newest (newest found)) }
 {
-    Check::Pass
+    Ok(())
         .stop_if(found.is_blank(), Stop::RingBlank)
         .stop_if(found.is_unreadable(), Stop::RingUnreadable)
 }

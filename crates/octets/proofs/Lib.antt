@@ -5,3 +5,4 @@ pub mod Numbers
 pub mod Tables
 pub mod Lent
 pub mod Search
+pub mod Tried

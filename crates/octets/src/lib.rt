@@ -19,14 +19,7 @@ pub fn part(s: &[u8], i: usize, n: usize) -> &[u8]
 pub fn blank(s: &[u8]) -> bool
     ensures { result ≡ blank s.now }
 {
-    let mut i = 0;
-    while i < s.len() {
-        if s[i] != 0xFF {
-            return false;
-        }
-        i += 1;
-    }
-    true
+    s.iter().all(|b| *b == 0xFF)
 }
 
 // The bits in which two strings of one length differ, all bytes taken together.
@@ -35,8 +28,8 @@ fn differences(a: &[u8], b: &[u8]) -> u8
     ensures { (result ≡ 0 → a.now ≡ b.now) × (a.now ≡ b.now → result ≡ 0) }
 {
     let mut d: u8 = 0;
-    for i in 0..a.len() {
-        d |= a[i] ^ b[i];
+    for (x, y) in a.iter().zip(b) {
+        d |= *x ^ *y;
     }
     d
 }
@@ -52,12 +45,13 @@ pub fn same(a: &[u8], b: &[u8]) -> bool
 }
 
 // Copies the bytes of `from` over the first of `to`.
+// A loop: of `copy_from_slice` the compiler makes a call of memmove, and libraries call memcpy and memset alone.
 pub fn copy(from: &[u8], to: &mut [u8])
     requires { length from.now ≤ length to.old }
     ensures { to.new ≡ put to.old 0 from.now }
 {
-    for i in 0..from.len() {
-        to[i] = from[i];
+    for (i, byte) in from.iter().enumerate() {
+        to[i] = *byte;
     }
 }
 
@@ -69,22 +63,12 @@ pub fn copy_at(from: &[u8], to: &mut [u8], i: usize)
     copy(from, &mut to[i..]);
 }
 
-// The twelve bytes of a string as an array.
-pub fn twelve(s: &[u8]) -> [u8; 12]
-    requires { length s.now ≡ 12 }
+// The N bytes of a string as an array.
+pub fn array<const N: usize>(s: &[u8]) -> [u8; N]
+    requires { length s.now ≡ N }
     ensures { result ≡ s.now }
 {
-    let mut r = [0u8; 12];
-    copy(s, &mut r);
-    r
-}
-
-// The sixteen bytes of a string as an array.
-pub fn sixteen(s: &[u8]) -> [u8; 16]
-    requires { length s.now ≡ 16 }
-    ensures { result ≡ s.now }
-{
-    let mut r = [0u8; 16];
+    let mut r = [0u8; N];
     copy(s, &mut r);
     r
 }
@@ -93,16 +77,7 @@ pub fn sixteen(s: &[u8]) -> [u8; 16]
 pub fn fill(s: &mut [u8], b: u8)
     ensures { s.new ≡ replicate (length s.old) b }
 {
-    for i in 0..s.len() {
-        s[i] = b;
-    }
-}
-
-// A byte as a word.
-fn wide(x: u8) -> u32
-    ensures { (result ≡ x) × (result < 256) }
-{
-    x as u32
+    s.fill(b);
 }
 
 // The word of the four bytes at offset i, most significant byte first.
@@ -110,20 +85,18 @@ pub fn word_at(s: &[u8], i: usize) -> u32
     requires { i + 4 ≤ length s.now }
     ensures { result ≡ word_at s.now i }
 {
-    ((wide(s[i]) * 256 + wide(s[i + 1])) * 256 + wide(s[i + 2])) * 256 + wide(s[i + 3])
+    u32::from_be_bytes([s[i], s[i + 1], s[i + 2], s[i + 3]])
 }
 
 // The four bytes of a word, most significant byte first.
 pub fn word_bytes(w: u32) -> [u8; 4]
     ensures { result ≡ bytes 4 w }
 {
-    [
-        (w / 0x100_0000 % 256) as u8,
-        (w / 0x1_0000 % 256) as u8,
-        (w / 256 % 256) as u8,
-        (w % 256) as u8,
-    ]
+    w.to_be_bytes()
 }
+
+// The four readings below differ in a constant of their papers and in what they give; each is one operation, so one for both constants
+// would be no shorter than a call of it.
 
 // The kind of a checkpoint's word: its top two bits.
 pub fn kind_of(w: u32) -> u32

@@ -1,7 +1,8 @@
 // The arguments: the names of two files for the images of ring and FRAM, and the number of the last cut.
 
-ghost use Rattle.std.specs.Prelude.{◌≤◌};
+ghost use Rattle.std.specs.Prelude.{◌≤◌, IfSome};
 
+use crate::plan::CUTS;
 use bench_io::{Console, argument_count, fail, file_name};
 use std::env::Env;
 use std::fs::Files;
@@ -10,40 +11,41 @@ use std::{fs, io};
 // The longest name of a file that is read.
 const NAME_LIMIT: usize = 4096;
 
-// The value of a decimal digit, or 41 for another byte.
-fn digit_value(b: u8) -> usize
-    ensures { result ≤ 41 }
+// The value of a decimal digit.
+fn digit_value(b: u8) -> Option<usize>
+    ensures { IfSome result (λ n. n ≤ 9) }
 {
-    if b < 0x30 {
-        return 41;
+    match b {
+        b'0'..=b'9' => Some(usize::from(b - b'0')),
+        _ => None,
     }
-    if 0x39 < b {
-        return 41;
-    }
-    (b - 0x30) as usize
 }
 
-// The number from 1 to 40 that a text of one or two digits has, else 0.
-fn number_of(text: &[u8]) -> usize {
-    let n = match text.len() {
-        1 => digit_value(text[0]),
-        2 => digit_value(text[0]) * 10 + digit_value(text[1]),
-        _ => 0,
+// The number from 1 to 40 that a text of one or two digits has.
+fn number_of(text: &[u8]) -> Option<usize> {
+    let n = match text {
+        [ones] => digit_value(*ones)?,
+        [tens, ones] => digit_value(*tens)? * 10 + digit_value(*ones)?,
+        _ => return None,
     };
-    if n <= 40 { n } else { 0 }
+    if (1..=CUTS).contains(&n) {
+        Some(n)
+    } else {
+        None
+    }
 }
 
-// The number of the last cut: 40 where the arguments do not name one, and 0 where they are wrong.
-pub fn last_cut(rt: &impl Env) -> usize {
-    let count = argument_count(rt);
-    if count == 4 {
-        let mut text = [0u8; 8];
-        return match rt.arg(3, &mut text) {
-            Ok(n) => number_of(&text[..n]),
-            Err(_) => 0,
-        };
+// The number of the last cut, 40 where the arguments do not name one; none where they are wrong.
+pub fn last_cut(rt: &impl Env) -> Option<usize> {
+    match argument_count(rt) {
+        0 | 1 | 3 => Some(CUTS),
+        4 => {
+            let mut text = [0u8; 8];
+            let n = rt.arg(3, &mut text).ok()?;
+            number_of(&text[..n])
+        }
+        _ => None,
     }
-    if (count == 2) | (4 < count) { 0 } else { 40 }
 }
 
 // Writes a file, and puts it in the place of one that there is.

@@ -38,14 +38,13 @@ fn print_heading(rt: &impl Print) {
 }
 
 fn main(rt: HostRuntime) {
-    let last = last_cut(&rt);
-    if last == 0 {
+    let Some(last) = last_cut(&rt) else {
         complain(
             &rt,
             b"usage: power_cuts [RING FRAM [CUT]], two files to write and a number from 1 to 40\n",
         );
         return;
-    }
+    };
     let mut ring = [0xFFu8; 96];
     let mut fram = [0u8; 128];
     print_heading(&rt);

@@ -2,7 +2,7 @@
 use Prim.Native.Nat.{ℕ, ◌+◌, ◌^◌, ◌<◌, ◌≤◌}
 use mathlib.Core.Path.{◌≡◌, refl, sym, ap, ◌∙◌}
 use mathlib.Core.Bool.{Bool, true, false, not}
-use mathlib.Core.Option.{Option, none, some}
+use mathlib.Core.Option.{Option, none}
 use mathlib.Core.List.{List, [], ◌∷◌}
 use lib.Dec.{eqb}
 use borrow.Author.Tests.{eqb-false, ltb-false, not-false}
@@ -54,10 +54,6 @@ module _ (key latest half nonce : List ℕ) (good : good_head part_limit (form_o
       }
 
 -- ---- stops 12, 13, 10 and 4
-
--- a stop is not none
-pub stopped_not_none : {A : Type 0} {s : ℕ} → some s ≡ none → A
-stopped_not_none e = let z : ◌≡◌ {A = ℕ} 0 1 = cc in absurd (omega arith)
 
 pub opening_tried : (half : List ℕ) (good used : Bool) (r : ℕ) (g : Bool) (o₁ o₂ o₃ o₄ : Option ℕ) → r ≡ stored_restarts (form_of half) half → g ≡ outgrows Longer half
     → o₁ ≡ then_stop none 12 (not good) → o₂ ≡ then_stop o₁ 13 (eqb r restart_limit) → o₃ ≡ then_stop o₂ 10 used → o₄ ≡ then_stop o₃ 4 g → o₄ ≡ first_of (opening_lines half good used)

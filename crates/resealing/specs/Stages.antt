@@ -1,10 +1,9 @@
 -- The stops of sealing a half anew (document 01, "Stops, by the place of checking", and document 02, A.2 and A.6), and what that leaves.
-use Rattle.std.specs.Prelude.{ℕ, ◌≡◌, Bool, not, List, [], ◌∷◌, eqb}
-use Rattle.octets.specs.Limits.{restart_limit}
+use Rattle.std.specs.Prelude.{ℕ, ◌≡◌, ◌≤◌, Bool, not, List, [], ◌∷◌, length, eqb}
+use Rattle.octets.specs.Limits.{nonce_length, part_limit, restart_limit}
 use Rattle.octets.specs.Octets.{put}
-use Rattle.checkpoint.specs.declared.half.Head.{Head}
-use Rattle.checkpoint.specs.Checkpoint.{Longer, head_length, sealed, own_tag}
-use Rattle.checkpoint.specs.Half.{form_of, stored_packet, open_length, secret_length, stored_restarts, stored}
+use Rattle.checkpoint.specs.Checkpoint.{Longer, sealed, own_tag}
+use Rattle.checkpoint.specs.Half.{form_of, stored_restarts, stored}
 use Rattle.protocol.specs.Operations.{outgrows, resumed}
 
 -- the stops of a half with a good head: whether its tag is good, its restarts, whether the nonce is used, and its length, sealed anew
@@ -15,13 +14,10 @@ opening_lines half good used =
     (10, used) ∷
     (4, outgrows Longer half) ∷ []
 
--- a half's head as the code holds it
-pub record HeadOf (h : Head) (half : List ℕ) : Type 0 where
-  pub start : h.start ≡ head_length (form_of half)
-  pub packet : h.packet ≡ stored_packet (form_of half) half
-  pub open_part : h.«open» ≡ open_length (form_of half) half
-  pub secret : h.secret ≡ secret_length (form_of half) half
-  pub restarts : h.restarts ≡ stored_restarts (form_of half) half
+-- the lengths that sealing a half anew needs
+abbrev pub Resealable : (latest half nonce staging state : List ℕ) → Type 0
+Resealable latest half nonce staging state =
+    (length latest ≡ nonce_length) × (length nonce ≡ nonce_length) × (length half ≤ length staging) × (part_limit ≤ length state)
 
 -- what sealing anew leaves: the tag t, and staging and state at exit
 pub record Reseals (key t latest half nonce staging staging' state state' : List ℕ) : Type 0 where

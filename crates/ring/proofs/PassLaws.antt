@@ -1,34 +1,37 @@
 -- Reading by the first three pages that are not blank, found one after the other. Assumes nothing.
 use Prim.Native.Nat.{ℕ, suc, ◌+◌, ◌-◌, ◌<◌, ◌≤◌}
 use mathlib.Core.Path.{◌≡◌, refl, sym, ap, subst}
-use mathlib.Core.Bool.{false}
+use mathlib.Core.Bool.{true, false}
 use mathlib.Core.List.{List, [], ◌∷◌}
 use native.Mathlib.Nat.{sub-zero}
 use native.Mathlib.Omega.{arith}
-use lib.ListN.{get_or}
+use Rattle.std.proofs.Common.{Option, Some, None}
+use Rattle.std.specs.List.{slice_get}
+use Rattle.std.specs.Option.{is_some}
 use Rattle.ring.specs.Ring.{ring_wrong, Newest, Blank, Unreadable, used_from, alone, reading, read_ring, Within}
 use Rattle.ring.proofs.Exactly.{first_used}
 use Rattle.ring.proofs.NewestLaws.{read_within}
 
 module _ (ring : List ℕ) (pages slots : ℕ) where
-  -- p is the first used page from `from` on, or `pages`
-  abbrev pub IsNext : ℕ → ℕ → Type 0
-  IsNext from p = (p ≡ get_or (used_from ring slots from (pages - from)) 0 pages) × (p ≤ pages)
+  -- r is the first used page from `from` on
+  abbrev pub IsNext : ℕ → Option ℕ → Type 0
+  IsNext from r = r ≡ slice_get (used_from ring slots from (pages - from)) 0
 
-  none : (from p : ℕ) → from ≤ pages → IsNext from p → p ≡ pages → used_from ring slots from (pages - from) ≡ []
-  none from p h n e = go (used_from ring slots from (pages - from)) refl n.0
+  none : (from : ℕ) → IsNext from None → used_from ring slots from (pages - from) ≡ []
+  none from n = go (used_from ring slots from (pages - from)) n
     where
-      go : (u : List ℕ) → used_from ring slots from (pages - from) ≡ u → p ≡ get_or u 0 pages → u ≡ []
-      go [] i m = refl
-      go (q ∷ rest) i m = absurd (omega (arith, (first_used ring slots (pages - from) from q rest i).high))
+      go : (u : List ℕ) → None ≡ slice_get u 0 → u ≡ []
+      go [] m = refl
+      go (q ∷ rest) m = cc
 
-  one : (from p : ℕ) → from ≤ pages → IsNext from p → p < pages
+  one : (from p : ℕ) → from ≤ pages → IsNext from (Some p) → p < pages
       → used_from ring slots from (pages - from) ≡ p ∷ used_from ring slots (p + 1) (pages - (p + 1))
-  one from p h n l = go (used_from ring slots from (pages - from)) refl n.0
+  one from p h n l = go (used_from ring slots from (pages - from)) refl n
     where
-      go : (u : List ℕ) → used_from ring slots from (pages - from) ≡ u → p ≡ get_or u 0 pages → u ≡ p ∷ used_from ring slots (p + 1) (pages - (p + 1))
-      go [] i m = absurd (omega arith)
+      go : (u : List ℕ) → used_from ring slots from (pages - from) ≡ u → Some p ≡ slice_get u 0 → u ≡ p ∷ used_from ring slots (p + 1) (pages - (p + 1))
+      go [] i m = cc
       go (q ∷ rest) i m =
+          let j : p ≡ q = cc in
           let e : from + (pages - from) - suc q ≡ pages - (p + 1) = omega arith in
           let s : suc q ≡ p + 1 = omega arith in
           let r : used_from ring slots (p + 1) (pages - (p + 1)) ≡ rest = rw (← e, ← s) (first_used ring slots (pages - from) from q rest i).more in
@@ -38,25 +41,31 @@ module _ (ring : List ℕ) (pages slots : ℕ) where
   unfolding read_ring
   by used e = ap (reading ring pages slots) (rw sub-zero at e)
 
-  module _ {p : ℕ} (f : IsNext 0 p) where
-    pub read_none : p ≡ pages → read_ring ring pages slots ≡ Blank
+  pub read_none : IsNext 0 None → read_ring ring pages slots ≡ Blank
+  unfolding reading
+  read_none f = by [] (none 0 f)
+
+  module _ {p : ℕ} (f : IsNext 0 (Some p)) (h : p < pages) where
+    pub read_one : IsNext (p + 1) None → read_ring ring pages slots ≡ alone ring slots p
     unfolding reading
-    read_none e = by [] (none 0 p (omega arith) f e)
+    read_one g = by (p ∷ []) (rw (one 0 p (omega arith) f h, none (p + 1) g))
 
-    module _ {q : ℕ} (g : IsNext (p + 1) q) (h : p < pages) where
-      pub read_one : q ≡ pages → read_ring ring pages slots ≡ alone ring slots p
+    module _ {q : ℕ} (g : IsNext (p + 1) (Some q)) (i : q < pages) where
+      two : used_from ring slots 0 (pages - 0) ≡ p ∷ q ∷ used_from ring slots (q + 1) (pages - (q + 1))
+      two = rw (one 0 p (omega arith) f h, one (p + 1) q (omega arith) g i)
+
+      pub read_two : (r : Option ℕ) → IsNext (q + 1) r → is_some r ≡ false → read_ring ring pages slots ≡ reading ring pages slots (p ∷ q ∷ [])
+      read_two None k e = by (p ∷ q ∷ []) (rw two (rw (none (q + 1) k)))
+      read_two (Some r) k e = cc
+
+      pub read_more : (r : Option ℕ) → IsNext (q + 1) r → is_some r ≡ true → read_ring ring pages slots ≡ Unreadable
       unfolding reading
-      read_one e = by (p ∷ []) (rw (one 0 p (omega arith) f h, none (p + 1) q (omega arith) g e))
-
-      module _ {r : ℕ} (k : IsNext (q + 1) r) (i : q < pages) where
-        pub read_two : r ≡ pages → read_ring ring pages slots ≡ reading ring pages slots (p ∷ q ∷ [])
-        read_two e = by (p ∷ q ∷ []) (rw (one 0 p (omega arith) f h, one (p + 1) q (omega arith) g i, none (q + 1) r (omega arith) k e))
-
-        pub read_more : r < pages → read_ring ring pages slots ≡ Unreadable
-        unfolding reading
-        read_more j =
-            by (p ∷ q ∷ r ∷ used_from ring slots (r + 1) (pages - (r + 1)))
-            (rw (one 0 p (omega arith) f h, one (p + 1) q (omega arith) g i, one (q + 1) r (omega arith) k j))
+      read_more None k e = cc
+      read_more (Some r) k e = third (used_from ring slots (q + 1) (pages - (q + 1))) refl k
+        where
+          third : (u : List ℕ) → used_from ring slots (q + 1) (pages - (q + 1)) ≡ u → Some r ≡ slice_get u 0 → read_ring ring pages slots ≡ Unreadable
+          third [] j m = cc
+          third (s ∷ rest) j m = by (p ∷ q ∷ s ∷ rest) (rw two (rw j))
 
 -- what is read lies in the ring
 pub and_within : (pages slots : ℕ) (ring : List ℕ) → ring_wrong pages slots ring ≡ false → {n : Newest} → n ≡ read_ring ring pages slots

@@ -8,16 +8,14 @@ use mathlib.Core.List.{Memᴰ}
 use mathlib.Core.Logic.{◌⊎◌, inl, inr}
 use native.Mathlib.Nat.{suc-add, zero-add, add-zero}
 use native.Mathlib.Omega.{arith}
-use lib.ListN.{length, take, drop, length-append, drop_of_length-le}
+use lib.ListN.{length, take, drop, length-append}
 use lib.Dec.{eqb, ltb}
 use lib.Seq.{take_at, drop_at, take-append-le}
-use borrow.Rule.Slice.PartMut.{put_mid}
 use borrow.Author.Tests.{lt-ltb, ltb-true, eq-eqb}
 use Rattle.octets.specs.Limits.{slot_length, nonce_length}
 use Rattle.octets.specs.Octets.{part, put, same, blank, erased, number}
 use Rattle.octets.specs.Word.{word_at, kind_of, value_of, word}
-use Rattle.octets.proofs.Laws.{put_front, length_put, part_append_right, blank_append, erased_split, blank_erased, blank_part, is_erased, and-true}
-use Rattle.octets.proofs.Lent.{put_part}
+use Rattle.octets.proofs.Laws.{part_append_right, blank_append, erased_split, blank_erased, blank_part, is_erased, and-true}
 use Rattle.octets.proofs.Numbers.{length_word, word_front, word_behind, kind_is, value_is}
 use Rattle.ring.specs.Ring.{is_record, half_named, record_of, records, filled, nonce_in}
 
@@ -200,13 +198,3 @@ module _ (slots : ℕ) (recs : List (List ℕ)) (a : Records recs) where
       rw (s, ← append_assoc) (drop_at (A ++ erased slot_length) (erased m) (slot_length * n + length r) (omega (arith, length-append A (erased slot_length), length_concat recs a))) in
       let c : concat (recs ++ r ∷ []) ≡ A ++ r = concat_append recs (r ∷ []) ∙ ap (λ x. A ++ x) (append-nil r) in
       rw (t, d, c, append_assoc)
-
--- a string written over zeros, and another behind it
-pub written_behind : (m k : ℕ) (zeros x y a b : List ℕ) → length zeros ≡ m + k → length x ≡ m → length y ≡ k
-    → a ≡ put zeros 0 x → b ≡ put (part a m k) 0 y → put_mid m k a b ≡ x ++ y
-unfolding put
-written_behind m k zeros x y a b lz lx ly ha hb =
-    let la : length a ≡ m + k = ap length ha ∙ length_put zeros 0 x (omega arith) ∙ lz in
-    let front : take m a ≡ x = ap (take m) (ha ∙ put_front zeros x) ∙ take_at x (drop (length x) zeros) m lx in
-    ap (put_mid m k a) hb ∙ put_part m k 0 a y (omega arith) (omega arith)
-    ∙ rw (add-zero m, front, drop_of_length-le a {i = m + length y} (omega arith), append-nil)

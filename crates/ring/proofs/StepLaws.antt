@@ -1,13 +1,15 @@
 -- How the definitions go from one slot, or one page, to the next. Assumes nothing.
-use Prim.Native.Nat.{ℕ, suc, ◌+◌, ◌-◌, ◌*◌, ◌<◌, ◌≤◌}
+use Prim.Native.Nat.{ℕ, zero, suc, ◌+◌, ◌-◌, ◌*◌}
 use mathlib.Core.Path.{◌≡◌, refl, ap, sym, ◌∙◌}
-use mathlib.Core.Bool.{Bool, true, false, cond}
-use mathlib.Core.List.{List, [], ◌∷◌}
+use mathlib.Core.Bool.{Bool, true, false, not, cond}
+use mathlib.Core.List.{List, ◌∷◌}
 use native.Mathlib.Omega.{arith}
-use native.Mathlib.Numerals.{add-one}
+use native.Mathlib.Numerals.{add-one, one-add}
 use lib.ListN.{length, take, drop, length-drop}
 use lib.Seq.{drop-drop, take_all}
 use borrow.Author.Tests.{lt-ltb, eq-eqb, ne_eqb}
+use Rattle.std.proofs.Common.{Some}
+use Rattle.std.specs.List.{prefix_len, range_with_len, list_any, find, slice_get}
 use Rattle.octets.specs.Limits.{slot_length, nonce_length}
 use Rattle.octets.specs.Octets.{part, blank, same}
 use Rattle.ring.specs.Ring.{page_at, is_record, Unreadable, At, AtPending, records, filled, alone, followed, nonce_in, used_from}
@@ -20,60 +22,38 @@ said e t = sym e ∙ t
 pub told {ℓ κ} : {A : Type ℓ} {B : Type κ} (f : A → B) {x y : A} {r v : B} → r ≡ f x → x ≡ y → r ≡ v → f y ≡ v
 told f e p t = said (e ∙ ap f p) t
 
-less : (k n : ℕ) → k < n → n - k ≡ suc (n - (k + 1))
-less k n h = omega arith
-
-none_left : (n k : ℕ) → n ≤ k → n - k ≡ 0
-none_left n k h = omega arith
-
 slot_after : (k : ℕ) → slot_length * k + slot_length ≡ slot_length * (k + 1)
 slot_after k = omega arith
 
 next_slot : (page : List ℕ) (k : ℕ) → drop slot_length (drop (slot_length * k) page) ≡ drop (slot_length * (k + 1)) page
 next_slot page k = rw (drop-drop slot_length (slot_length * k) page, slot_after k)
 
-module _ (page : List ℕ) (slots k : ℕ) where
-  pub records_stops : k < slots → is_record (part page (slot_length * k) slot_length) ≡ false → records (drop (slot_length * k) page) (slots - k) ≡ 0
-  unfolding records part
-  records_stops h e = rw (less k slots, e)
+-- the slots of a page and the pages of a ring as `take_while`, `any` and `find` go over them, from number k on
 
-  pub records_goes : k < slots → is_record (part page (slot_length * k) slot_length) ≡ true
-      → records (drop (slot_length * k) page) (slots - k) ≡ suc (records (drop (slot_length * (k + 1)) page) (slots - (k + 1)))
-  unfolding records part
-  records_goes h e = rw (less k slots, e, next_slot page k)
+pub records_is : (page : List ℕ) (k n : ℕ)
+    → prefix_len (λ j. is_record (part page (slot_length * j) slot_length)) (range_with_len k n) ≡ records (drop (slot_length * k) page) n
+unfolding records part
+records_is page k zero = refl
+records_is page k (suc n) =
+    rw (records_is page (k + 1) n, next_slot page k, one-add)
 
-  pub records_ends : slots ≤ k → records (drop (slot_length * k) page) (slots - k) ≡ 0
-  unfolding records
-  records_ends h = rw (none_left slots k)
+pub nonce_in_is : (nonce page : List ℕ) (k n : ℕ)
+    → list_any (λ j. same (part page (slot_length * j) nonce_length) nonce) (range_with_len k n) ≡ nonce_in nonce (drop (slot_length * k) page) n
+unfolding nonce_in part
+nonce_in_is nonce page k zero = refl
+nonce_in_is nonce page k (suc n) =
+    rw (nonce_in_is nonce page (k + 1) n, next_slot page k)
 
-module _ (nonce page : List ℕ) (count k : ℕ) where
-  pub nonce_found : k < count → same (part page (slot_length * k) nonce_length) nonce ≡ true → nonce_in nonce (drop (slot_length * k) page) (count - k) ≡ true
-  unfolding nonce_in part
-  nonce_found h e = rw (less k count, e)
-
-  pub nonce_goes : k < count → same (part page (slot_length * k) nonce_length) nonce ≡ false
-      → nonce_in nonce (drop (slot_length * k) page) (count - k) ≡ nonce_in nonce (drop (slot_length * (k + 1)) page) (count - (k + 1))
-  unfolding nonce_in part
-  nonce_goes h e = rw (less k count, e, next_slot page k)
-
-  pub nonce_ends : count ≤ k → nonce_in nonce (drop (slot_length * k) page) (count - k) ≡ false
-  unfolding nonce_in
-  nonce_ends h = rw (none_left count k)
-
-module _ (ring : List ℕ) (pages slots p : ℕ) where
-  pub used_stops : p < pages → blank (page_at ring slots p) ≡ false
-      → used_from ring slots p (pages - p) ≡ p ∷ used_from ring slots (p + 1) (pages - (p + 1))
-  unfolding used_from
-  used_stops h e = rw (less p pages, e, add-one)
-
-  pub used_goes : p < pages → blank (page_at ring slots p) ≡ true
-      → used_from ring slots p (pages - p) ≡ used_from ring slots (p + 1) (pages - (p + 1))
-  unfolding used_from
-  used_goes h e = rw (less p pages, e, add-one)
-
-  pub used_ends : pages ≤ p → used_from ring slots p (pages - p) ≡ []
-  unfolding used_from
-  used_ends h = rw (none_left pages p)
+pub used_is : (ring : List ℕ) (slots k n : ℕ)
+    → find (λ j. not (blank (page_at ring slots j))) (range_with_len k n) ≡ slice_get (used_from ring slots k n) 0
+unfolding used_from
+used_is ring slots k zero = refl
+used_is ring slots k (suc n) = rw (used_is ring slots (k + 1) n, add-one) (first (blank (page_at ring slots k)))
+  where
+    first : (t : Bool) → cond (not t) (Some k) (slice_get (used_from ring slots (suc k) n) 0)
+        ≡ slice_get (cond t (used_from ring slots (suc k) n) (k ∷ used_from ring slots (suc k) n)) 0
+    first true = refl
+    first false = refl
 
 -- the part from offset i on
 abbrev rest : ℕ → List ℕ → List ℕ

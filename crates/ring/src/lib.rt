@@ -6,13 +6,12 @@ mod pages;
 mod read;
 mod stores;
 
-pub use found::{half_named, nonce_used, not_newest};
-pub use pages::{next_page, page_before, page_is_blank, ring_wrong, slot_at, slot_is_blank};
-pub use read::read_ring;
+pub use found::{Reading, half_named};
+pub use pages::{Ring, next_page, page_before, page_is_blank, ring_wrong, slot_at, slot_is_blank};
 pub use stores::{erase_page, record_of, write_record};
 
 // What reading a ring finds: the newest record's place, and the page that awaits erasing.
-#[derive(Clone, Copy)]
+#[derive(Clone, Copy, PartialEq, Eq)]
 pub enum Newest {
     Blank,
     Unreadable,

@@ -4,7 +4,7 @@ ghost use Rattle.octets.specs.Limits.{slot_length};
 ghost use Rattle.ring.specs.Ring.{record_of, page_erased, record_put};
 
 use octets::limits::{NONCE_LENGTH, SLOT_LENGTH};
-use octets::{copy, fill, word_of};
+use octets::{copy, copy_at, fill, word_of};
 
 // Sets a page to 0xFF.
 pub fn erase_page(ring: &mut [u8], slots: usize, page: usize)
@@ -23,8 +23,7 @@ pub fn record_of(nonce: [u8; 12], half: usize) -> [u8; 16]
 {
     let mut r = [0u8; 16];
     copy(&nonce, &mut r);
-    let place = word_of(1, half);
-    copy(&place, &mut r[NONCE_LENGTH..]);
+    copy_at(&word_of(1, half), &mut r, NONCE_LENGTH);
     r
 }
 
@@ -33,7 +32,5 @@ pub fn write_record(ring: &mut [u8], slots: usize, page: usize, slot: usize, byt
     requires { slot_length * (page * slots + slot) + slot_length ≤ length ring.old }
     ensures { ring.new ≡ record_put ring.old slots page slot bytes }
 {
-    let a = SLOT_LENGTH * (page * slots + slot);
-    let e = a + SLOT_LENGTH;
-    copy(&bytes, &mut ring[a..e]);
+    copy_at(&bytes, ring, SLOT_LENGTH * (page * slots + slot));
 }

@@ -1,18 +1,15 @@
 -- A text written behind another. Assumes nothing.
-use Prim.Native.Nat.{ℕ, ◌+◌, ◌-◌, ◌*◌, ◌/◌, ◌%◌, ◌≤◌, ◌<◌}
+use Prim.Native.Nat.{ℕ, ◌+◌, ◌*◌, ◌/◌, ◌%◌, ◌≤◌, ◌<◌}
 use mathlib.Core.Path.{◌≡◌, refl, sym, ap, subst, ◌∙◌}
 use mathlib.Core.Bool.{true, false}
 use mathlib.Core.List.{List, [], ◌∷◌, ◌++◌, append_assoc}
-use native.Mathlib.Nat.{add-zero}
 use native.Mathlib.Omega.{arith}
 use lib.ListN.{length, drop, replicate, length-append}
 use lib.Seq.{take_at, drop-drop, drop_at}
 use borrow.Author.Tests.{lt-ltb, le-ltb}
-use borrow.Rule.Slice.PartMut.{put_mid}
 use Rattle.octets.specs.Limits.{slot_length}
-use Rattle.octets.specs.Octets.{part, put}
+use Rattle.octets.specs.Octets.{put}
 use Rattle.octets.proofs.Laws.{put_front, length_put}
-use Rattle.octets.proofs.Lent.{put_part}
 use Rattle.stops.specs.View.{stop_number}
 use Rattle.stops.specs.declared.Stop.TheVariants.{RingSize}
 use Rattle.ring.specs.Ring.{ring_wrong, Newest, AtPending, read_ring, newest_page, newest_slot, Within}
@@ -32,20 +29,16 @@ put_put z t x h =
     ∙ drop-drop (length x) (length t) z ∙ ap (λ (n : ℕ). drop n z) (sym (length-append t x)) in
     rw (f, take_at t (drop (length t) z) (length t) refl, d, put_front z (t ++ x), append_assoc)
 
-pub added : (l : Line) (x b : List ℕ) → length l.bytes ≡ line_limit → l.length + length x ≤ line_limit
-    → b ≡ put (part l.bytes l.length (line_limit - l.length)) 0 x
-    → Added l x (record { bytes = put_mid l.length (line_limit - l.length) l.bytes b; length = l.length + length x })
+pub added : (l : Line) (x b : List ℕ) → length l.bytes ≡ line_limit → l.length + length x ≤ line_limit → b ≡ put l.bytes l.length x
+    → Added l x (record { bytes = b; length = l.length + length x })
 added l x b room fits e =
-    let k : ℕ = line_limit - l.length in
-    let whole : put_mid l.length k l.bytes b ≡ put l.bytes l.length x =
-    ap (put_mid l.length k l.bytes) e ∙ put_part l.length k 0 l.bytes x (omega arith) (omega arith) ∙ ap (λ (i : ℕ). put l.bytes i x) (add-zero l.length) in
     record {
-      room = ap length whole ∙ length_put l.bytes l.length x (omega arith) ∙ room;
+      room = ap length e ∙ length_put l.bytes l.length x (omega arith) ∙ room;
       long = refl;
       holds = λ before h.
           let same : l.length ≡ length before = ap (λ (m : Line). m.length) h in
-          let bytes' : put_mid l.length k l.bytes b ≡ put (replicate line_limit 0) 0 (before ++ x) =
-          whole ∙ ap (λ (m : Line). put m.bytes m.length x) h ∙ put_put (replicate line_limit 0) before x (omega arith) in
+          let bytes' : b ≡ put (replicate line_limit 0) 0 (before ++ x) =
+          e ∙ ap (λ (m : Line). put m.bytes m.length x) h ∙ put_put (replicate line_limit 0) before x (omega arith) in
           let length' : l.length + length x ≡ length (before ++ x) = rw length-append (omega arith) in
           λ i. record { bytes = bytes' i; length = length' i };
     }

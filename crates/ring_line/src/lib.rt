@@ -1,18 +1,18 @@
 // The state of a ring as a line of text, as the program ringview writes it (document 01, "Bench values").
 #![tactic(auto)]
 
-ghost use Rattle.std.specs.Prelude.{◌≡◌, false, [], ◌+◌, ◌≤◌, ◌<◌, length};
+ghost use Rattle.std.specs.Prelude.{◌≡◌, false, [], ◌+◌, ◌≤◌, ◌<◌, length, take};
 ghost use Rattle.stops.specs.View.{stop_number};
 ghost use Rattle.ring.specs.Ring.{ring_wrong, read_ring};
 ghost use Rattle.ring.specs.View.{newest};
 ghost use Rattle.ring_line.specs.Text.{digit, decimal, refused_text, refused_line, half_text, place_text, newest_text, ring_text};
 ghost use Rattle.ring_line.specs.Line.{line_limit, Added, Short};
 
-use octets::copy;
-use ring::{Newest, half_named, read_ring, ring_wrong, slot_at};
+use octets::copy_at;
+use ring::{Newest, Ring, half_named, slot_at};
 use stops::{Stop, stop_number};
 
-// The first `length` bytes are the line; the others are zeros.
+// The first `length` bytes are the line; the others are zeros. A buffer with its length, as libraries have no heap; specs/Line.antt names both.
 #[derive(Clone, Copy)]
 pub struct Line {
     pub bytes: [u8; 40],
@@ -29,41 +29,42 @@ impl Line {
         }
     }
 
-    // The line with a text behind it.
-    fn add(self, text: &[u8]) -> Line
-        requires { (length self.bytes ≡ line_limit) × (self.length + length text.now ≤ line_limit) }
-        ensures { Added self text.now result }
+    // The line's text.
+    pub fn as_bytes(&self) -> &[u8]
+        requires { self.now.length ≤ line_limit }
+        ensures { result.now ≡ take self.now.length self.now.bytes }
     {
-        let mut bytes = self.bytes;
-        let at = self.length;
-        let n = text.len();
-        copy(text, &mut bytes[at..]);
-        Line {
-            bytes,
-            length: at + n,
-        }
+        &self.bytes[..self.length]
     }
 
-    // The line with a number behind it.
+    // The line with a text behind it.
+    fn add(mut self, text: &[u8]) -> Line
+        requires { self.length + length text.now ≤ line_limit }
+        ensures { Added self text.now result }
+    {
+        let at = self.length;
+        copy_at(text, &mut self.bytes, at);
+        self.length += text.len();
+        self
+    }
+
+    // The line with a number behind it. Its digits are made by hand, as libraries have no formatting.
     fn add_decimal(self, n: usize) -> Line
-        requires { (n < 1000) × ((length self.bytes ≡ line_limit) × (self.length + 3 ≤ line_limit)) }
+        requires { (n < 1000) × (self.length + 3 ≤ line_limit) }
         ensures { Added self (decimal n) result × (length (decimal n) ≤ 3) }
     {
         if n < 10 {
-            let d = [digit(n)];
-            return self.add(&d);
+            return self.add(&[digit(n)]);
         }
         if n < 100 {
-            let d = [digit(n / 10), digit(n % 10)];
-            return self.add(&d);
+            return self.add(&[digit(n / 10), digit(n % 10)]);
         }
-        let d = [digit(n / 100), digit(n / 10 % 10), digit(n % 10)];
-        self.add(&d)
+        self.add(&[digit(n / 100), digit(n / 10 % 10), digit(n % 10)])
     }
 
     // The line with a half's letter behind it.
     fn add_half(self, half: usize) -> Line
-        requires { (length self.bytes ≡ line_limit) × (self.length + 7 ≤ line_limit) }
+        requires { self.length + 7 ≤ line_limit }
         ensures { Added self (half_text half) result × (length (half_text half) ≡ 7) }
     {
         if half == 0 {
@@ -77,7 +78,7 @@ fn digit(d: usize) -> u8
     requires { d < 10 }
     ensures { result ≡ digit d }
 {
-    0x30 + d as u8
+    b'0' + d as u8
 }
 
 // The line of a stop, by its number.
@@ -105,20 +106,19 @@ fn place(page: usize, slot: usize, half: usize) -> Line
     line.add_half(half).add(b" pending ")
 }
 
-// The line of what reading a ring found, without its end.
-fn found(ring: &[u8], pages: usize, slots: usize, n: Newest) -> Line
-    requires { (ring_wrong pages slots ring.now ≡ false) × (newest n ≡ read_ring ring.now pages slots) }
-    ensures { Short (newest_text ring.now slots (newest n)) result 37 }
+// The line of a ring of right sizes, without its end.
+fn found(ring: &Ring) -> Line
+    ensures { Short (newest_text ring.now.bytes.now ring.now.slots (read_ring ring.now.bytes.now ring.now.pages ring.now.slots)) result 37 }
 {
-    match n {
+    match ring.read() {
         Newest::Blank => Line::empty().add(b"blank"),
         Newest::Unreadable => refused(stop_number(Stop::RingUnreadable)),
         Newest::At { page, slot } => {
-            let half = half_named(slot_at(ring, slots, page, slot));
+            let half = half_named(slot_at(ring.bytes, ring.slots, page, slot));
             place(page, slot, half).add(b"none")
         }
         Newest::AtPending { page, pending } => {
-            let half = half_named(slot_at(ring, slots, page, 0));
+            let half = half_named(slot_at(ring.bytes, ring.slots, page, 0));
             place(page, 0, half).add_decimal(pending)
         }
     }
@@ -128,9 +128,8 @@ fn found(ring: &[u8], pages: usize, slots: usize, n: Newest) -> Line
 pub fn ring_line(ring: &[u8], pages: usize, slots: usize) -> Line
     ensures { Short (ring_text pages slots ring.now) result line_limit }
 {
-    if ring_wrong(ring, pages, slots) {
-        return refused_line(Stop::RingSize);
+    match Ring::new(ring, pages, slots) {
+        Err(stop) => refused_line(stop),
+        Ok(ring) => found(&ring).add(b"\n"),
     }
-    let n = read_ring(ring, pages, slots);
-    found(ring, pages, slots, n).add(b"\n")
 }

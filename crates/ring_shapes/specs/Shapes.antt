@@ -1,11 +1,11 @@
 -- Every shape of a readable ring of a small size, numbered, for the bench (document 02, A.9).
-use Rattle.std.specs.Prelude.{ℕ, zero, suc, ◌*◌, Bool, not, ◌||◌, List, [], ◌∷◌, ◌++◌, length, get_or, replicate, ltb}
+use Rattle.std.specs.Prelude.{ℕ, Result, zero, suc, ◌*◌, Bool, not, ◌||◌, List, [], ◌∷◌, ◌++◌, length, get_or, replicate, ltb}
 use Rattle.std.proofs.Math.Option.{Option, none, some}
 use Rattle.octets.specs.Limits.{slot_length, nonce_length, shape_pages_limit, shape_slots_limit}
 use Rattle.octets.specs.Octets.{erased}
 use Rattle.stops.specs.Stops.{first_of}
 use Rattle.stops.specs.View.{check_number}
-use Rattle.stops.specs.declared.Check.{Check}
+use Rattle.stops.specs.declared.Stop.{Stop}
 use Rattle.ring.specs.Ring.{ring_wrong, page_before, record_put}
 
 -- ---- the shapes of a size, in the request's order
@@ -83,5 +83,5 @@ unfoldable pub ring_shape : (pages slots number : ℕ) → List ℕ → Shaped
 ring_shape pages slots number ring = shaped_by (shape_stop pages slots number ring) pages slots number ring
 
 -- the code's answer, with what it left in the buffer
-abbrev pub shaped_as : Check → List ℕ → Shaped
+abbrev pub shaped_as : Result Unit Stop → List ℕ → Shaped
 shaped_as r ring = record { stop = check_number r; ring = ring }

@@ -9,7 +9,7 @@ ghost use Rattle.ring_shapes.specs.Inner.{ToShape};
 use octets::fill;
 use octets::limits::{SHAPE_PAGES_LIMIT, SHAPE_SLOTS_LIMIT};
 use ring::{page_before, record_of, ring_wrong, write_record};
-use stops::{Check, Stop};
+use stops::Stop;
 
 // Stop 1.
 fn size_wrong(ring: &[u8], pages: usize, slots: usize) -> bool
@@ -54,18 +54,18 @@ fn put_shape(ring: &mut [u8], pages: usize, slots: usize, number: usize)
 }
 
 // Writes ring number `number`, counted from 0, of `pages` pages of `slots` slots to a buffer of that ring's size.
-pub fn ring_shape(pages: usize, slots: usize, number: usize, ring: &mut [u8]) -> Check
+pub fn ring_shape(pages: usize, slots: usize, number: usize, ring: &mut [u8]) -> Result<(), Stop>
     ensures { shaped_as result ring.new ≡ ring_shape pages slots number ring.old }
 {
     if size_wrong(ring, pages, slots) {
-        return Check::Stopped(Stop::RingSize);
+        return Err(Stop::RingSize);
     }
     if past_last(pages, slots, number) {
-        return Check::Stopped(Stop::PastLastShape);
+        return Err(Stop::PastLastShape);
     }
     fill(ring, 0xFF);
     if number > 0 {
         put_shape(ring, pages, slots, number);
     }
-    Check::Pass
+    Ok(())
 }

@@ -3,7 +3,7 @@
 // to standard output, and `refused` with the stop's number to standard error.
 #![tactic(auto)]
 
-ghost use Rattle.std.specs.Prelude.{◌≡◌, ◌+◌, ◌*◌, ◌≤◌, length};
+ghost use Rattle.std.specs.Prelude.{◌≡◌, ◌+◌, ◌*◌, ◌≤◌, length, IfSome};
 ghost use Rattle.octets.specs.Limits.{slot_length, shape_pages_limit, shape_slots_limit};
 
 use bench_io::{Console, argument_count, complain, number_argument, refuse, write_out};
@@ -11,7 +11,7 @@ use octets::limits::{PAGES_LEAST, SHAPE_PAGES_LIMIT, SHAPE_SLOTS_LIMIT, SLOT_LEN
 use ring_line::ring_line;
 use ring_shapes::ring_shape;
 use std::env::Env;
-use stops::Check;
+use stops::Stop;
 
 // The number of the last ring of the largest size.
 const LAST: usize = SHAPE_PAGES_LIMIT * (SHAPE_SLOTS_LIMIT + 1);
@@ -19,32 +19,16 @@ const LAST: usize = SHAPE_PAGES_LIMIT * (SHAPE_SLOTS_LIMIT + 1);
 // Room for one page and one slot more than are taken, as a number that is too large comes as one more than the most.
 const ROOM: usize = SLOT_LENGTH * (SHAPE_PAGES_LIMIT + 1) * (SHAPE_SLOTS_LIMIT + 1);
 
-// Whether the arguments name a size, and which.
-#[derive(Clone, Copy)]
-struct Size {
-    is_size: bool,
-    pages: usize,
-    slots: usize,
-}
-
-// The size that the arguments name; 3 by 2 where there are none.
-fn size_named(rt: &impl Env, count: usize) -> Size
-    ensures { (result.pages ≤ shape_pages_limit + 1) × (result.slots ≤ shape_slots_limit + 1) }
+// The pages and slots that the arguments name, if they are numbers; 3 and 2 where there are no arguments.
+fn size_named(rt: &impl Env, count: usize) -> Option<(usize, usize)>
+    ensures { IfSome result (λ size. (size.0 ≤ shape_pages_limit + 1) × (size.1 ≤ shape_slots_limit + 1)) }
 {
     if count < 2 {
-        return Size {
-            is_size: true,
-            pages: PAGES_LEAST,
-            slots: SLOTS_LEAST,
-        };
+        return Some((PAGES_LEAST, SLOTS_LEAST));
     }
-    let pages = number_argument(rt, 1, SHAPE_PAGES_LIMIT);
-    let slots = number_argument(rt, 2, SHAPE_SLOTS_LIMIT);
-    Size {
-        is_size: pages.is_number & slots.is_number,
-        pages: pages.value,
-        slots: slots.value,
-    }
+    let pages = number_argument(rt, 1, SHAPE_PAGES_LIMIT)?;
+    let slots = number_argument(rt, 2, SHAPE_SLOTS_LIMIT)?;
+    Some((pages, slots))
 }
 
 // How many bytes such a ring has.
@@ -62,41 +46,32 @@ fn write_line(
     slots: usize,
     number: usize,
     ring: &mut [u8],
-) -> Check {
-    let check = ring_shape(pages, slots, number, ring);
-    match check {
-        Check::Stopped(stop) => Check::Stopped(stop),
-        Check::Pass => {
-            let line = ring_line(ring, pages, slots);
-            let bytes = line.bytes;
-            let length = line.length;
-            write_out(rt, &bytes[..length]);
-            Check::Pass
-        }
-    }
+) -> Result<(), Stop> {
+    ring_shape(pages, slots, number, ring)?;
+    let line = ring_line(ring, pages, slots);
+    let bytes = line.bytes;
+    let length = line.length;
+    write_out(rt, &bytes[..length]);
+    Ok(())
 }
 
 // Writes the line of every ring of a size, up to the number that is past the last.
 fn write_lines(rt: &impl Console, pages: usize, slots: usize, ring: &mut [u8]) {
     for number in 0..LAST + 1 {
-        match write_line(rt, pages, slots, number, ring) {
-            Check::Pass => {}
-            Check::Stopped(stop) => {
-                if number == 0 {
-                    refuse(rt, stop);
-                }
-                return;
+        if let Err(stop) = write_line(rt, pages, slots, number, ring) {
+            if number == 0 {
+                refuse(rt, stop);
             }
+            return;
         }
     }
 }
 
 // Writes a ring as bytes.
 fn write_ring(rt: &impl Console, pages: usize, slots: usize, number: usize, ring: &mut [u8]) {
-    let check = ring_shape(pages, slots, number, ring);
-    match check {
-        Check::Stopped(stop) => refuse(rt, stop),
-        Check::Pass => write_out(rt, ring),
+    match ring_shape(pages, slots, number, ring) {
+        Ok(()) => write_out(rt, ring),
+        Err(stop) => refuse(rt, stop),
     }
 }
 
@@ -113,23 +88,22 @@ fn run(rt: &impl Console, room: &mut [u8])
 {
     // The program's own name is the first of them.
     let count = argument_count(rt);
-    let size = size_named(rt, count);
-    if !size.is_size | (count > 4) {
+    let Some((pages, slots)) = size_named(rt, count) else {
+        usage(rt);
+        return;
+    };
+    if count > 4 {
         usage(rt);
         return;
     }
-    let pages = size.pages;
-    let slots = size.slots;
     let n = ring_length(pages, slots);
     if count < 4 {
         write_lines(rt, pages, slots, &mut room[..n]);
         return;
     }
-    let number = number_argument(rt, 3, LAST);
-    if number.is_number {
-        write_ring(rt, pages, slots, number.value, &mut room[..n]);
-    } else {
-        usage(rt);
+    match number_argument(rt, 3, LAST) {
+        Some(number) => write_ring(rt, pages, slots, number, &mut room[..n]),
+        None => usage(rt),
     }
 }
 

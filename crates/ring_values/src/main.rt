@@ -26,30 +26,24 @@ fn show_ring(rt: &impl Print, digits: &[u8]) {
 }
 
 fn show(rt: &impl Print, line: &[u8]) {
-    if line.len() > 0 {
-        if line[0] == b'#' {
-            let _ = rt.write_all(line);
-            let _ = rt.write_all(b"\n");
-            return;
-        }
+    if line.first() == Some(&b'#') {
+        let _ = rt.write_all(line);
+        let _ = rt.write_all(b"\n");
+        return;
     }
     show_ring(rt, line);
 }
 
 fn show_lines(rt: &impl Print, s: &[u8]) {
-    let mut at = 0;
-    while at < s.len() {
-        let n = until(&s[at..], LINE_FEED);
-        let end = at + n;
-        show(rt, &s[at..end]);
-        at = end + 1;
+    for line in s.split_inclusive(|c| *c <= LINE_FEED) {
+        let n = until(line, LINE_FEED);
+        show(rt, &line[..n]);
     }
 }
 
 fn main(rt: HostRuntime) {
     let mut text = [0u8; 65_536];
-    let loaded = read_file(&rt, b"rings.txt", &mut text);
-    if loaded.is_read {
-        show_lines(&rt, &text[..loaded.length]);
+    if let Some(n) = read_file(&rt, b"rings.txt", &mut text) {
+        show_lines(&rt, &text[..n]);
     }
 }

@@ -16,7 +16,11 @@ use Rattle.gcm.specs.Calls.{KeyLength}
 use Rattle.gcm.proofs.Keys.{whole_key}
 use Rattle.checkpoint.specs.Checkpoint.{Longer, Checkpoint, part_wrong, sealed_length, checkpoint_of}
 use Rattle.checkpoint.specs.Fram.{fram_wrong, half_length}
+use Rattle.ring.specs.View.{newest}
+use Rattle.ring.specs.declared.found.Reading.{Reading}
 use Rattle.memories.specs.Stages.{of_memories}
+use Rattle.memories.specs.Read.{ReadFrom}
+use Rattle.memories.proofs.ReadLaws.{found_is}
 use Rattle.protocol.specs.Types.{Words, Save, Session, this_firmware}
 use Rattle.protocol.specs.Calls.{From, from_tag, from_session, SaveArguments, saves}
 use Rattle.protocol.specs.Operations.{key_wrong, nonce_wrong, tag_wrong, from_wrong, parts_wrong, staging_wrong, packet_wrong, stale, session_wrong, Begin, begin, job_of, written_number, number_from, restarts_from, previous_tag, save_restarts, larger, save_checkpoint, save_target, ring_lines, save_stop, save}
@@ -137,6 +141,11 @@ module _ (ring fram : List ℕ) (a : SaveArguments) (z : Session) where
 
   abbrev pub lines_read : List (ℕ × Bool)
   lines_read = next_lines ring a.sizes.slots read z a.nonce
+
+  -- on a ring that was read
+  pub lines_tried : (r : Reading) (o : Option ℕ) → ReadFrom r a.sizes.pages a.sizes.slots ring → o ≡ first_of (next_lines r.ring.bytes.now r.ring.slots (newest r.found) z a.nonce)
+      → o ≡ first_of lines_read
+  lines_tried r o e f = f ∙ (λ i. first_of (next_lines (e.same_bytes i) (e.same_slots i) (found_is r a.sizes.pages a.sizes.slots ring e i) z a.nonce))
 
   pub on_next : (from : From) → from ≡ from_session z → first_of (save_buffers ring fram a from) ≡ none → save_stop this_firmware ring fram (saves a from) ≡ first_of lines_read
   unfolding ring_lines

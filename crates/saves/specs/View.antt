@@ -5,9 +5,11 @@ use Rattle.protocol.specs.Types as types
 use Rattle.protocol.specs.Calls as calls
 use Rattle.protocol.specs.Operations.{tag_wrong}
 use Rattle.jobs.specs.View.{view_session}
+use Rattle.memories.specs.declared.Memories.{Memories}
 use Rattle.saves.specs.declared.types.Given.{Given}
 use Rattle.saves.specs.declared.types.Given.TheVariants.{StartingTag, Session, WrongTag}
 use Rattle.saves.specs.declared.types.From.{From}
+use Rattle.saves.specs.declared.types.Draft.{Draft}
 
 -- a starting tag of another length counts as an empty one: both are stop 3 (proofs/Laws.antt)
 abbrev pub whole_tag : List ℕ → List ℕ
@@ -28,3 +30,6 @@ view_from f = view_given f.given f.tag (view_session f.session)
 -- what a save is given besides
 abbrev pub save_arguments : ℕ → ℕ → List ℕ → List ℕ → ℕ → List ℕ → List ℕ → List ℕ → calls.SaveArguments
 save_arguments pages slots key nonce packet open_part secret staging = record { sizes = calls.sizes pages slots; key = key; nonce = nonce; packet = packet; open_part = open_part; secret = secret; staging = staging }
+
+abbrev pub arguments_of : Memories → Draft → List ℕ → calls.SaveArguments
+arguments_of m d staging = save_arguments m.pages m.slots d.key.now d.nonce.now d.packet d.open_part.now d.secret.now staging

@@ -9,8 +9,8 @@ ghost use Rattle.saves.specs.View.{whole_tag, kept_tag, view_from};
 use crate::types::{From, Given};
 use gcm::tag_wrong;
 use jobs::{Session, no_session};
+use octets::array;
 use octets::limits::TAG_LENGTH;
-use octets::sixteen;
 
 // A starting tag, 16 random bytes, for the unit's first checkpoint. Of any other length it is stop 3 of the save that gets it.
 pub fn from_tag(tag: &[u8]) -> From
@@ -28,7 +28,7 @@ pub fn from_tag(tag: &[u8]) -> From
     let given = Given::StartingTag;
     From {
         given,
-        tag: sixteen(tag),
+        tag: array(tag),
         session,
     }
 }
@@ -51,11 +51,6 @@ impl From {
     pub(crate) fn wrong(self) -> bool
         ensures { result ≡ from_wrong (view_from self) }
     {
-        let given = self.given;
-        match given {
-            Given::StartingTag => false,
-            Given::Session => false,
-            Given::WrongTag => true,
-        }
+        matches!(self.given, Given::WrongTag)
     }
 }

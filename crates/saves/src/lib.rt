@@ -7,4 +7,4 @@ mod saving;
 mod types;
 
 pub use from::{from_session, from_tag};
-pub use types::{From, Given};
+pub use types::{Draft, From, Given};

@@ -37,5 +37,5 @@ pub fn sub_byte(sbox: &[u8; 256], x: u8) -> u8
     requires { sbox.now ≡ table 256 sub_byte }
     ensures { result ≡ sub_byte x }
 {
-    sbox[x as usize]
+    sbox[usize::from(x)]
 }

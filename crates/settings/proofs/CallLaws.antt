@@ -123,10 +123,10 @@ writes L k v e =
 
 module _ (L : List ℕ) (k v : ℕ) where
   -- the stop, from what the code finds
-  pub write_stopped : (o : Option ℕ) (at : ℕ) (wrong : Bool) → at ≡ place L k → wrong ≡ value_wrong k v
-      → o ≡ list_stop L (eqb k 15 || eqb at (count L)) wrong → o ≡ write_stop L k v
+  pub write_stopped : (o : Option ℕ) (no_place wrong : Bool) → no_place ≡ missing L k → wrong ≡ value_wrong k v
+      → o ≡ list_stop L (eqb k 15 || no_place) wrong → o ≡ write_stop L k v
   unfolding write_stop
-  write_stopped o at wrong e f g = g ∙ (λ i. list_stop L (eqb k 15 || eqb (e i) (count L)) (f i))
+  write_stopped o no_place wrong e f g = g ∙ (λ i. list_stop L (eqb k 15 || e i) (f i))
 
   pub is_changed : (left : List ℕ) (at : ℕ) → at ≡ place L k → left ≡ put L (4 * at) (top_word k v) → left ≡ changed L k v
   unfolding changed

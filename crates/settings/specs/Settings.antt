@@ -1,6 +1,6 @@
 -- Settings in the open part (document 02, A.12). A list L is the whole part: words, most significant byte first, each with its kind in the top
 -- four bits and its value in the other 28. A word is known by its place, counted from 0. The first gives the list's version.
-use Rattle.std.specs.Prelude.{ℕ, ◌-◌, ◌*◌, ◌/◌, ◌%◌, Bool, false, cond, not, ◌&&◌, ◌||◌, List, [], ◌∷◌, length, eqb, leb, ltb}
+use Rattle.std.specs.Prelude.{ℕ, ◌-◌, ◌*◌, ◌/◌, ◌%◌, Bool, false, cond, not, ◌&&◌, ◌||◌, List, [], ◌∷◌, length, eqb, leb, ltb, Result, Ok, Err}
 use Rattle.std.proofs.Math.Option.{Option, none, some}
 use Rattle.octets.specs.Limits.{volume_limit, delay_least, delay_limit, setting_limit}
 use Rattle.octets.specs.Octets.{put}
@@ -8,9 +8,8 @@ use Rattle.octets.specs.Search.{first_below, some_below}
 use Rattle.octets.specs.Word.{word_at, top_kind, low_value, top_word}
 use Rattle.stops.specs.Stops.{first_of}
 use Rattle.stops.specs.View.{stop_number, check_number}
-use Rattle.stops.specs.declared.Check.{Check}
+use Rattle.stops.specs.declared.Stop.{Stop}
 use Rattle.settings.specs.declared.Settings.{Settings}
-use Rattle.settings.specs.declared.Settings.TheVariants.{Read, Unread}
 
 -- ---- the words
 
@@ -96,9 +95,9 @@ unfoldable pub settings_read : List ℕ → Reading
 settings_read L = read_by (read_stop L) L
 
 -- the code's answer
-abbrev pub reading : Settings → Reading
-reading (Read volume delay) = Volume_delay volume delay
-reading (Unread s) = Stopped (stop_number s)
+abbrev pub reading : Result Settings Stop → Reading
+reading (Ok s) = Volume_delay s.volume s.delay
+reading (Err s) = Stopped (stop_number s)
 
 -- ---- the writer
 
@@ -124,5 +123,5 @@ unfoldable pub settings_write : List ℕ → (kind value : ℕ) → Written
 settings_write L k v = written_by (write_stop L k v) L k v
 
 -- the code's answer, with what it left in the list
-abbrev pub written_as : Check → List ℕ → Written
+abbrev pub written_as : Result Unit Stop → List ℕ → Written
 written_as r L = record { stop = check_number r; list = L }

@@ -1,15 +1,16 @@
 // Settings in the open part (document 02, A.12): volume and alert delay read from a list, and one setting of a list changed where it stands.
 #![tactic(auto)]
 
-ghost use Rattle.std.specs.Prelude.{◌≡◌, false, ◌*◌, ◌^◌, ◌≤◌, ◌<◌};
+ghost use Rattle.std.specs.Prelude.{◌≡◌, false, ◌*◌, ◌^◌, ◌≤◌, ◌<◌, IfSome, unwrap_or};
 ghost use Rattle.octets.specs.Octets.{put};
+ghost use Rattle.octets.specs.Search.{some_below};
 ghost use Rattle.octets.specs.Word.{top_word};
 ghost use Rattle.stops.specs.View.{check_number};
 ghost use Rattle.settings.specs.Settings.{count, kind_at, value_at, place, last_kind, list_wrong, kind_wrong, kinds_wrong, value_wrong, values_wrong, list_stop, settings_read, reading, settings_write, written_as};
 
 use octets::limits::{DELAY_LEAST, DELAY_LIMIT, SETTING_LIMIT, VOLUME_LIMIT};
 use octets::{copy_at, low_value, top_kind, word_at, word_bytes};
-use stops::{Check, Stop};
+use stops::{Stop, StopIf};
 
 // The kind of the first word, whose value is the list's version, and those of version 1's settings.
 pub const LIST_VERSION: u32 = 15;
@@ -21,11 +22,11 @@ pub const ALERT_DELAY: u32 = 2;
 // The last kind of version 2.
 const LAST: u32 = 14;
 
-// What the reader answers: the volume, and the alert delay in seconds, or why it stopped.
+// The settings that every list has: the volume, and the alert delay in seconds.
 #[derive(Clone, Copy)]
-pub enum Settings {
-    Read { volume: u32, delay: u32 },
-    Unread(Stop),
+pub struct Settings {
+    pub volume: u32,
+    pub delay: u32,
 }
 
 // The kind of word i.
@@ -44,17 +45,11 @@ pub fn value_at(list: &[u8], i: usize) -> u32
     low_value(word_at(list, 4 * i))
 }
 
-// The place of the first word of a kind; past the last if there is none.
-fn place(list: &[u8], kind: u32) -> usize
-    ensures { result ≡ place list.now kind }
+// The place of the first word of a kind, if there is one.
+fn place(list: &[u8], kind: u32) -> Option<usize>
+    ensures { (unwrap_or result (count list.now) ≡ place list.now kind) × IfSome result (λ i. i < count list.now) }
 {
-    let n = list.len() / 4;
-    for i in 0..n {
-        if kind_at(list, i) == kind {
-            return i;
-        }
-    }
-    n
+    (0..list.len() / 4).find(|i| kind_at(list, *i) == kind)
 }
 
 // Stop 23.
@@ -84,34 +79,34 @@ fn kind_wrong(list: &[u8], i: usize) -> bool
     (kind == 0) | (kind > last_kind(value_at(list, 0))) | ((i > 1) & (kind <= kind_at(list, i - 1)))
 }
 
+// Whether the kind of some word behind the first is not the version's or does not rise.
+fn some_kind_wrong(list: &[u8]) -> bool
+    ensures { result ≡ some_below (count list.now) (kind_wrong list.now) }
+{
+    (1..list.len() / 4).any(|i| kind_wrong(list, i))
+}
+
 // Stop 24. Where kinds rise from 1 on, the first two are 1 and 2, or one of these is missing.
 fn kinds_wrong(list: &[u8]) -> bool
     requires { list_wrong list.now ≡ false }
     ensures { result ≡ kinds_wrong list.now }
 {
-    let n = list.len() / 4;
-    for i in 1..n {
-        if kind_wrong(list, i) {
-            return true;
-        }
-    }
-    if n < 3 {
+    if some_kind_wrong(list) | (list.len() / 4 < 3) {
         return true;
     }
     (kind_at(list, 1) != VOLUME) | (kind_at(list, 2) != ALERT_DELAY)
 }
 
 // Whether a kind does not take a value.
+#[tactic(auto, unfolding(crate::specs::Settings::value_wrong))]
 fn value_wrong(kind: u32, value: u32) -> bool
     ensures { result ≡ value_wrong kind value }
 {
-    if kind == VOLUME {
-        return value > VOLUME_LIMIT;
+    match kind {
+        VOLUME => value > VOLUME_LIMIT,
+        ALERT_DELAY => (value < DELAY_LEAST) | (value > DELAY_LIMIT),
+        _ => value > SETTING_LIMIT,
     }
-    if kind == ALERT_DELAY {
-        return (value < DELAY_LEAST) | (value > DELAY_LIMIT);
-    }
-    value > SETTING_LIMIT
 }
 
 // Stop 25, of a list that has no other: volume and delay are its second and its third word.
@@ -123,30 +118,27 @@ fn values_wrong(list: &[u8]) -> bool
 }
 
 // The stops of a list; 24 and 25 also for a kind and a value that a writer is refused.
-fn check(list: &[u8], kind_refused: bool, value_refused: bool) -> Check
+fn check(list: &[u8], kind_refused: bool, value_refused: bool) -> Result<(), Stop>
     ensures { check_number result ≡ list_stop list.now kind_refused value_refused }
 {
     if list_wrong(list) {
-        return Check::Stopped(Stop::BadList);
+        return Err(Stop::BadList);
     }
     if kinds_wrong(list) | kind_refused {
-        return Check::Stopped(Stop::BadKinds);
+        return Err(Stop::BadKinds);
     }
-    Check::Pass.stop_if(values_wrong(list) | value_refused, Stop::BadValue)
+    Ok(()).stop_if(values_wrong(list) | value_refused, Stop::BadValue)
 }
 
 // Answers the volume and the alert delay of a list, or stops with 23, 24 or 25.
-pub fn settings_read(list: &[u8]) -> Settings
+pub fn settings_read(list: &[u8]) -> Result<Settings, Stop>
     ensures { reading result ≡ settings_read list.now }
 {
-    let check = check(list, false, false);
-    match check {
-        Check::Stopped(stop) => Settings::Unread(stop),
-        Check::Pass => Settings::Read {
-            volume: value_at(list, 1),
-            delay: value_at(list, 2),
-        },
-    }
+    check(list, false, false)?;
+    Ok(Settings {
+        volume: value_at(list, 1),
+        delay: value_at(list, 2),
+    })
 }
 
 // Puts a word of a kind and a value over word i.
@@ -158,17 +150,12 @@ fn put_word(list: &mut [u8], i: usize, kind: u32, value: u32)
 }
 
 // Changes the setting of a kind where it stands, and no other word; or stops with 23, 24 or 25 and writes nothing.
-pub fn settings_write(list: &mut [u8], kind: u32, value: u32) -> Check
+pub fn settings_write(list: &mut [u8], kind: u32, value: u32) -> Result<(), Stop>
     ensures { written_as result list.new ≡ settings_write list.old kind value }
 {
     let at = place(list, kind);
-    let kind_refused = (kind == LIST_VERSION) | (at == list.len() / 4);
-    let check = check(list, kind_refused, value_wrong(kind, value));
-    match check {
-        Check::Stopped(stop) => Check::Stopped(stop),
-        Check::Pass => {
-            put_word(list, at, kind, value);
-            Check::Pass
-        }
-    }
+    let kind_refused = (kind == LIST_VERSION) | at.is_none();
+    check(list, kind_refused, value_wrong(kind, value))?;
+    put_word(list, at.unwrap(), kind, value);
+    Ok(())
 }

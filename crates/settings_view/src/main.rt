@@ -5,7 +5,7 @@
 
 use bench_io::{Console, answer_refused, complain, not_written, read_open};
 use octets::limits::PART_LIMIT;
-use settings::{ALERT_DELAY, LIST_VERSION, Settings, VOLUME, kind_at, settings_read, value_at};
+use settings::{ALERT_DELAY, LIST_VERSION, VOLUME, kind_at, settings_read, value_at};
 
 // One byte more than the longest open part, so that more is seen to be more.
 const ROOM: usize = PART_LIMIT + 1;
@@ -17,20 +17,17 @@ fn write_line(rt: &impl Print, words: &[u8], number: u32, end: &[u8]) -> bool {
 
 // Writes the line of a word; whether all was taken.
 fn write_word(rt: &impl Print, kind: u32, value: u32) -> bool {
-    if kind == LIST_VERSION {
-        return write_line(rt, b"version ", value, b"\n");
+    match kind {
+        LIST_VERSION => write_line(rt, b"version ", value, b"\n"),
+        VOLUME => write_line(rt, b"volume ", value, b"\n"),
+        ALERT_DELAY => write_line(rt, b"alert delay ", value, b" s\n"),
+        _ => write_line(rt, b"kind ", kind, b": ") & write_line(rt, b"", value, b"\n"),
     }
-    if kind == VOLUME {
-        return write_line(rt, b"volume ", value, b"\n");
-    }
-    if kind == ALERT_DELAY {
-        return write_line(rt, b"alert delay ", value, b" s\n");
-    }
-    write_line(rt, b"kind ", kind, b": ") & write_line(rt, b"", value, b"\n")
 }
 
 // Writes the lines of a list, or complains once.
 fn write_words(rt: &impl Console, list: &[u8]) {
+    // kind_at and value_at, of the library, name a word by its place.
     for i in 0..list.len() / 4 {
         if !write_word(rt, kind_at(list, i), value_at(list, i)) {
             not_written(rt);
@@ -41,29 +38,23 @@ fn write_words(rt: &impl Console, list: &[u8]) {
 
 // What is written of a list.
 fn show(rt: &impl Console, list: &[u8]) {
-    let settings = settings_read(list);
-    match settings {
-        Settings::Read {
-            volume: _,
-            delay: _,
-        } => write_words(rt, list),
-        Settings::Unread(stop) => answer_refused(rt, stop),
+    match settings_read(list) {
+        Ok(_) => write_words(rt, list),
+        Err(stop) => answer_refused(rt, stop),
     }
 }
 
 fn main(rt: HostRuntime) {
     let mut list = [0u8; ROOM];
-    let loaded = read_open(
+    let Some(length) = read_open(
         &rt,
         &mut rt.reader(),
         b"list: ",
         b"standard input",
         &mut list,
-    );
-    if !loaded.is_read {
+    ) else {
         return;
-    }
-    let length = loaded.length;
+    };
     if length > PART_LIMIT {
         complain(&rt, b"list: standard input is longer than an open part\n");
         return;

@@ -1,10 +1,8 @@
 -- What the code's answers mean: the number of each stop, 1 to 14 in document 01 and from 15 on in document 02.
-use Rattle.std.specs.Prelude.{ℕ}
+use Rattle.std.specs.Prelude.{ℕ, Result, Ok, Err}
 use Rattle.std.proofs.Math.Option.{Option, none, some}
 use Rattle.stops.specs.declared.Stop.{Stop}
 use Rattle.stops.specs.declared.Stop.TheVariants.{RingSize, FramSize, KeyNonceTagSize, BufferSize, RingInUse, RingBlank, RingUnreadable, StaleSession, PagePending, NonceUsed, BadHead, TagDiffers, RestartLimit, BadJob, BadLine, BadChecksum, DataMisplaced, PacketTooLarge, NotFirstSave, BadTrace, BadEntries, NoOrder, BadList, BadKinds, BadValue, PastLastShape}
-use Rattle.stops.specs.declared.Check.{Check}
-use Rattle.stops.specs.declared.Check.TheVariants.{Pass, Stopped}
 
 abbrev pub stop_number : Stop → ℕ
 stop_number RingSize = 1
@@ -34,7 +32,7 @@ stop_number BadKinds = 24
 stop_number BadValue = 25
 stop_number PastLastShape = 26
 
--- what the checks say: the number of a stop, or none where all pass
-abbrev pub check_number : Check → Option ℕ
-check_number Pass = none
-check_number (Stopped s) = some (stop_number s)
+-- the number of the stop that an answer is, or none
+abbrev pub check_number : {A : Type 0} → Result A Stop → Option ℕ
+check_number (Ok _) = none
+check_number (Err s) = some (stop_number s)

@@ -36,13 +36,6 @@ pub enum Stop {
     PastLastShape,
 }
 
-// What an operation's checks say.
-#[derive(Clone, Copy)]
-pub enum Check {
-    Pass,
-    Stopped(Stop),
-}
-
 // The papers' number of a stop.
 pub fn stop_number(stop: Stop) -> u32
     ensures { result ≡ stop_number stop }
@@ -77,20 +70,19 @@ pub fn stop_number(stop: Stop) -> u32
     }
 }
 
-impl Check {
+// The trying of an operation's conditions, one behind the other: `Ok(()).stop_if(.., ..).stop_if(.., ..)`.
+pub trait StopIf {
+    fn stop_if(self, wrong: bool, stop: Stop) -> Self;
+}
+
+impl StopIf for Result<(), Stop> {
     // The stop if `wrong`, where the conditions before have passed.
-    pub fn stop_if(self, wrong: bool, stop: Stop) -> Check
+    fn stop_if(self, wrong: bool, stop: Stop) -> Result<(), Stop>
         ensures { check_number result ≡ then_stop (check_number self) (stop_number stop) wrong }
     {
         match self {
-            Check::Stopped(first) => Check::Stopped(first),
-            Check::Pass => {
-                if wrong {
-                    Check::Stopped(stop)
-                } else {
-                    Check::Pass
-                }
-            }
+            Err(first) => Err(first),
+            Ok(()) => { if wrong { Err(stop) } else { Ok(()) } }
         }
     }
 }

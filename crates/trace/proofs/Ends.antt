@@ -1,14 +1,7 @@
 -- Without a cut an operation runs to its end (document 02, A.4): no job makes more stores than `most_stores`. Assumes nothing.
-use Prim.Native.Nat.{ℕ, zero, suc, ◌+◌, ◌*◌, ◌/◌, ◌%◌, ◌≤◌, ◌<◌}
-use mathlib.Core.Path.{◌≡◌, refl, ap, ◌∙◌}
-use mathlib.Core.Bool.{Bool, true, false, not, cond, ◌||◌}
-use mathlib.Core.Logic.{◌⊎◌, inl, inr}
+use Rattle.std.proofs.Common.{ℕ, zero, suc, ◌+◌, ◌*◌, ◌/◌, ◌%◌, ◌≤◌, ◌<◌, ◌≡◌, refl, ap, ◌∙◌, Bool, true, false, not, cond, ◌||◌, ◌⊎◌, inl, inr, List, [], ◌∷◌, arith, eqb, leb, ltb, length, ltb-false}
 use mathlib.Core.Option.{Option, none, some}
-use mathlib.Core.List.{List, [], ◌∷◌}
-use native.Mathlib.Omega.{arith}
-use lib.Dec.{eqb, leb, ltb}
-use lib.ListN.{length, length-replicate}
-use borrow.Author.Tests.{ltb-false}
+use lib.ListN.{length-replicate}
 use Rattle.octets.specs.Octets.{part}
 use Rattle.octets.proofs.Laws.{length_part, length_put}
 use Rattle.octets.specs.Word.{low_value}

@@ -1,11 +1,7 @@
 -- The stores of an operation beside the advances of a list: both go on together. Assumes nothing.
-use Prim.Native.Nat.{ℕ, zero, suc, ◌≤◌}
-use mathlib.Core.Path.{◌≡◌, refl, sym, ap, subst, ◌∙◌}
-use mathlib.Core.Bool.{Bool, true, false, cond}
-use mathlib.Core.Logic.{inr}
+use Rattle.std.proofs.Common.{ℕ, zero, suc, ◌≤◌, ◌≡◌, refl, sym, ap, subst, ◌∙◌, Bool, true, false, cond, inr, List, [], ◌∷◌, arith}
 use mathlib.Core.Option.{Option, none, some}
-use mathlib.Core.List.{List, [], ◌∷◌, Memᴰ}
-use native.Mathlib.Omega.{arith}
+use mathlib.Core.List.{Memᴰ}
 use Rattle.checkpoint.specs.Checkpoint.{Checkpoint}
 use Rattle.protocol.specs.Types.{Session, Origin, Phase, EraseFirst, Words, Record, EraseAfter, Done, Progress, GoingOn, Saved, Restored, Refused, this_firmware}
 use Rattle.protocol.specs.Calls.{Event, advanced_by}

@@ -1,32 +1,24 @@
 -- What running a trace comes to, by its check. Assumes nothing.
-use Prim.Native.Nat.{ℕ, ◌*◌, ◌%◌, ◌≤◌}
-use mathlib.Core.Path.{◌≡◌, refl, sym, ap, subst, ◌∙◌}
-use mathlib.Core.Bool.{Bool, true, false, not, cond, ◌||◌}
+use Rattle.std.proofs.Common.{ℕ, ◌*◌, ◌%◌, ◌≤◌, Ok, Err, ◌≡◌, refl, sym, ap, subst, ◌∙◌, Bool, true, false, not, cond, ◌||◌, List, arith, eqb, ltb, length, eq-eqb, le-ltb, eqb-true, ltb-false}
 use mathlib.Core.Option.{Option, none, some}
-use mathlib.Core.List.{List}
-use native.Mathlib.Omega.{arith}
-use lib.Dec.{eqb, ltb}
-use lib.ListN.{length}
-use borrow.Author.Tests.{eq-eqb, le-ltb, eqb-true, ltb-false, not-false}
+use borrow.Author.Tests.{not-false}
 use Rattle.octets.specs.Limits.{trace_limit}
 use Rattle.octets.specs.Octets.{put}
 use Rattle.stops.specs.Stops.{first_of}
-use Rattle.stops.specs.View.{stop_number, check_number}
-use Rattle.stops.specs.declared.Check.{Check}
-use Rattle.stops.specs.declared.Check.TheVariants.{Stopped}
+use Rattle.stops.specs.View.{stop_number}
 use Rattle.stops.specs.declared.Stop.{Stop}
 use Rattle.stops.proofs.Laws.{passes, neither}
 use Rattle.ring_line.specs.Text.{refused_line}
 use Rattle.trace_words.specs.Words.{words_of, words_wrong, trace_wrong}
 use Rattle.trace.specs.Trace.{ring_length, fram_length, text_length, Run, key_refused, trace_stop, run_by, run_trace, output}
-use Rattle.trace.specs.View.{Ran}
+use Rattle.trace.specs.View.{view_traced, Ran}
 
 module _ (key trace ring fram text : List ℕ) where
-  pub trace_passes : trace_stop key trace ring fram text ≡ none
+  pub trace_passes : none ≡ trace_stop key trace ring fram text
       → (length trace ≤ 4 * trace_limit) × (length ring ≡ ring_length) × (length fram ≡ fram_length) × (text_length ≤ length text)
   unfolding trace_stop trace_wrong
   trace_passes e =
-      let p = passes _ e in
+      let p = passes _ (sym e) in
       let t = neither (not (eqb (length trace % 4) 0)) (ltb (4 * trace_limit) (length trace)) (neither (not (eqb (length trace % 4) 0) || ltb (4 * trace_limit) (length trace)) (words_wrong false (words_of trace)) p.1.1.1.1.0).0 in (
         ltb-false (4 * trace_limit) (length trace) t.1,
         eqb-true (length ring) ring_length (not-false _ p.0),
@@ -34,17 +26,16 @@ module _ (key trace ring fram text : List ℕ) where
         ltb-false (length text) text_length p.1.1.1.0,
       )
 
-  pub refused_run : (s : Stop) (c : Check) → c ≡ Stopped s → check_number c ≡ trace_stop key trace ring fram text
-      → ◌≡◌ {A = Run} (record { stop = some (stop_number s); written = 0; ring = ring; fram = fram; text = text }) (run_trace key trace ring fram text)
+  pub refused_run : (s : Stop) → some (stop_number s) ≡ trace_stop key trace ring fram text → view_traced (Err s) ring fram text ≡ run_trace key trace ring fram text
   unfolding run_trace run_by
-  refused_run s c q e = ap (λ (o : Option ℕ). run_by o key trace ring fram text) (sym (ap check_number q) ∙ e)
+  refused_run s e = ap (λ (o : Option ℕ). run_by o key trace ring fram text) e
 
-  pub passed_run : (ring' fram' text' : List ℕ) (n : ℕ) → trace_stop key trace ring fram text ≡ none → Ran key (words_of trace) text n ring' fram' text'
-      → ◌≡◌ {A = Run} (record { stop = none; written = n; ring = ring'; fram = fram'; text = text' }) (run_trace key trace ring fram text)
+  pub passed_run : (ring' fram' text' : List ℕ) (n : ℕ) → none ≡ trace_stop key trace ring fram text → Ran key (words_of trace) text n ring' fram' text'
+      → view_traced (Ok n) ring' fram' text' ≡ run_trace key trace ring fram text
   unfolding run_trace run_by
   passed_run ring' fram' text' n e r =
       (λ i. record { stop = none; written = r.long i; ring = r.ring i; fram = r.fram i; text = r.lines_put i })
-      ∙ sym (ap (λ (o : Option ℕ). run_by o key trace ring fram text) e)
+      ∙ ap (λ (o : Option ℕ). run_by o key trace ring fram text) e
 
 -- ---- what is printed
 

@@ -1,15 +1,9 @@
 -- The theorem TraceRecovery: a trace whose nonces all differ goes on beside a list of the theorem Recovery. Assumes nothing.
-use Prim.Native.Nat.{ℕ, ◌^◌, ◌≤◌, ◌<◌}
-use mathlib.Core.Path.{◌≡◌, refl, sym, ap, subst, ◌∙◌}
-use mathlib.Core.Bool.{Bool, true, false, cond}
-use mathlib.Core.Logic.{◌⊎◌, inl, inr}
+use Rattle.std.proofs.Common.{ℕ, ◌^◌, ◌≤◌, ◌<◌, ◌≡◌, refl, sym, ap, subst, ◌∙◌, Bool, true, false, cond, ◌⊎◌, inl, inr, List, [], ◌∷◌, ◌++◌, append-nil, mod-lt, arith, T, eqb, lit<, length}
 use mathlib.Core.Option.{Option, none, some}
 use mathlib.Core.List.Memᴰ
-use mathlib.Core.List.{List, [], ◌∷◌, ◌++◌, Memᴰ, append-nil}
-use native.Mathlib.Nat.{mod-lt}
-use native.Mathlib.Omega.{arith}
-use lib.Dec.{T, eqb, lit<}
-use lib.ListN.{length, length-replicate}
+use mathlib.Core.List.{Memᴰ}
+use lib.ListN.{length-replicate}
 use Rattle.octets.specs.Octets.{blank}
 use Rattle.octets.proofs.Laws.{blank_erased}
 use Rattle.octets.specs.Limits.{fram_limit, part_limit, nonce_length}

@@ -1,14 +1,7 @@
 -- A save without a session (document 02, A.4): the keeper's own save, given the session of zeros, refuses with the number that the trace prints.
 -- Assumes nothing.
-use Prim.Native.Nat.{ℕ, ◌^◌, ◌<◌}
-use mathlib.Core.Path.{◌≡◌, refl, sym, ap, ◌∙◌}
-use mathlib.Core.Bool.{Bool, true, false, cond, ◌||◌}
-use mathlib.Core.Logic.{inl, inr}
+use Rattle.std.proofs.Common.{ℕ, ◌^◌, ◌<◌, ◌≡◌, refl, sym, ap, ◌∙◌, Bool, true, false, cond, ◌||◌, inl, inr, List, [], arith, length, eq-eqb, le-ltb}
 use mathlib.Core.Option.{some}
-use mathlib.Core.List.{List, []}
-use native.Mathlib.Omega.{arith}
-use lib.ListN.{length}
-use borrow.Author.Tests.{eq-eqb, le-ltb}
 use Rattle.octets.specs.Limits.{fram_limit, nonce_length, packet_limit}
 use Rattle.octets.specs.Octets.{blank, bytes}
 use Rattle.octets.proofs.Numbers.{length_bytes}

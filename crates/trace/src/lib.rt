@@ -5,7 +5,7 @@ mod run;
 mod starts;
 mod unit;
 
-pub use run::{Traced, run_trace};
+pub use run::run_trace;
 
 // The bench's ring and FRAM. A half of the FRAM has HALF_LENGTH bytes.
 pub const PAGES: usize = 3;

@@ -1,30 +1,23 @@
 // Running a trace.
-ghost use Rattle.std.specs.Prelude.{◌≡◌, ◌*◌, ◌≤◌, length};
+ghost use Rattle.std.specs.Prelude.{◌≡◌, ◌*◌, ◌≤◌, length, IfOk};
 ghost use Rattle.octets.specs.Limits.{trace_limit};
 ghost use Rattle.stops.specs.View.{check_number};
 ghost use Rattle.trace.specs.Trace.{ring_length, fram_length, text_length, trace_stop, run_trace};
 ghost use Rattle.trace_words.specs.Words.{words_of};
 ghost use Rattle.trace.specs.View.{view_traced, Ran};
 
-use crate::unit::new_unit;
+use crate::unit::Unit;
 use crate::{FRAM_LENGTH, RING_LENGTH, TEXT_LENGTH};
 use gcm::key_wrong;
 use octets::{fill, word_at};
-use stops::{Check, Stop};
+use stops::{Stop, StopIf};
 use trace_words::trace_wrong;
 
-// What running a trace answers: the length of the lines, or why it was not run, and then 0.
-#[derive(Clone, Copy)]
-pub struct Traced {
-    pub check: Check,
-    pub written: usize,
-}
-
 // Stops 1 to 4 and 20. Nothing is stored.
-fn trace_check(key: &[u8], trace: &[u8], ring: &[u8], fram: &[u8], text: &[u8]) -> Check
+fn trace_check(key: &[u8], trace: &[u8], ring: &[u8], fram: &[u8], text: &[u8]) -> Result<(), Stop>
     ensures { check_number result ≡ trace_stop key.now trace.now ring.now fram.now text.now }
 {
-    Check::Pass
+    Ok(())
         .stop_if(ring.len() != RING_LENGTH, Stop::RingSize)
         .stop_if(fram.len() != FRAM_LENGTH, Stop::FramSize)
         .stop_if(key_wrong(key.len()), Stop::KeyNonceTagSize)
@@ -39,39 +32,28 @@ fn run_words(key: &[u8], trace: &[u8], ring: &mut [u8], fram: &mut [u8], text: &
 {
     fill(ring, 0xFF);
     fill(fram, 0xFF);
-    let mut unit = new_unit();
+    let mut unit = Unit {
+        session: None,
+        cut: None,
+    };
     let mut at = 0;
-    for k in 0..trace.len() / 4 {
-        let next = unit.step(key, word_at(trace, 4 * k), ring, fram, text, at);
-        unit = next.unit;
-        at = next.end;
+    for word in trace.chunks_exact(4) {
+        at = unit.step(key, word_at(word, 0), ring, fram, text, at);
     }
     at
 }
 
-// Runs a trace under a key, if the key and all of the trace are in order, and writes the lines that are printed to the front of the text.
-// On a stop every buffer stays as it was.
+// Runs a trace under a key, if the key and all of the trace are in order, writes the lines that are printed to the front of the text and
+// answers their length. On a stop every buffer stays as it was.
 pub fn run_trace(
     key: &[u8],
     trace: &[u8],
     ring: &mut [u8],
     fram: &mut [u8],
     text: &mut [u8],
-) -> Traced
-    ensures { (view_traced result ring.new fram.new text.new ≡ run_trace key.now trace.now ring.old fram.old text.old) × (result.written ≤ length text.old) }
+) -> Result<usize, Stop>
+    ensures { (view_traced result ring.new fram.new text.new ≡ run_trace key.now trace.now ring.old fram.old text.old) × IfOk result (λ n. n ≤ length text.old) }
 {
-    let check = trace_check(key, trace, ring, fram, text);
-    match check {
-        Check::Stopped(stop) => Traced {
-            check: Check::Stopped(stop),
-            written: 0,
-        },
-        Check::Pass => {
-            let written = run_words(key, trace, ring, fram, text);
-            Traced {
-                check: Check::Pass,
-                written,
-            }
-        }
-    }
+    trace_check(key, trace, ring, fram, text)?;
+    Ok(run_words(key, trace, ring, fram, text))
 }

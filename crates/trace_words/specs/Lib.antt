@@ -1,2 +1,3 @@
 -- The words of a bench trace.
 pub mod Words
+pub mod View

@@ -8,12 +8,5 @@ ghost use Rattle.vectors.specs.Lines.{until};
 pub fn until(s: &[u8], limit: u8) -> usize
     ensures { (result ≡ until limit s.now) × (result ≤ length s.now) }
 {
-    let mut i = 0;
-    while i < s.len() {
-        if s[i] <= limit {
-            return i;
-        }
-        i += 1;
-    }
-    i
+    s.iter().position(|b| *b <= limit).unwrap_or(s.len())
 }

@@ -2,5 +2,5 @@
 use Rattle.std.proofs.Common.{◌+◌, ◌≤◌}
 use Rattle.bench_io.proofs.number_in.Given as goal
 
-abbrev pub invariant-loop-i : goal.invariant-loop-i
-invariant-loop-i l = l.n ≤ l.most + 1
+abbrev pub invariant-loop-c : goal.invariant-loop-c
+invariant-loop-c l = l.n ≤ l.most + 1

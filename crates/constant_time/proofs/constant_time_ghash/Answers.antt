@@ -32,7 +32,7 @@ returns-then-aad-cipher c =
     let a = c.args in (
       sym c.if-aad-cipher.true,
       c.ghash-y.ensures _ c.steps-t.ensures
-          ∙ ap (λ (H : ℕ). GHASH H (hash_input a.aad.now a.cipher.now)) c.block_at.ensures
+          ∙ ap (λ (H : ℕ). GHASH H (hash_input a.aad.now a.cipher.now)) c.first_block.ensures
           ∙ left true a.h.now a.aad.now a.cipher.now _ c.if-aad-cipher.true,
     )
 

@@ -5,4 +5,4 @@ use Rattle.constant_time.proofs.constant_time_product.Goals as goal
 
 pub returns : goal.returns
 returns c =
-    c.product-p.ensures _ c.steps-t.ensures ∙ ap₂ ◌•◌ c.block_at-2.ensures c.block_at.ensures
+    c.product-p.ensures _ c.steps-t.ensures ∙ ap₂ ◌•◌ c.first_block-2.ensures c.first_block.ensures

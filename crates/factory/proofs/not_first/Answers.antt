@@ -4,6 +4,7 @@ use mathlib.Core.Bool.{not, ◌||◌}
 use Prim.Native.Nat.{ℕ}
 use lib.Dec.{eqb}
 use Rattle.checkpoint.specs.Checkpoint.{Form, Older, Longer, head_length}
+use Rattle.checkpoint.specs.Half.{form_of}
 use Rattle.factory.specs.Factory.{is_older, not_first}
 use Rattle.factory.proofs.not_first.Goals as goal
 
@@ -14,9 +15,11 @@ by_length Longer = refl
 
 pub returns : goal.returns
 unfolding not_first
-returns c form e =
+returns c =
     let page = c.page.ensures in
     let slot = c.slot.ensures in
     let pending = c.is_pending.ensures in
-    let older = ap (λ (n : ℕ). not (eqb n (head_length Longer))) e ∙ by_length form in
-    λ i. not (eqb (page i) 0) || not (eqb (slot i) 0) || not (eqb c.args.half 0) || pending i || not (eqb c.args.head.restarts 0) || older i
+    let h = c.args.head.now in
+    let restarts = h.says.restarts_is in
+    let older = ap (λ (n : ℕ). not (eqb n (head_length Longer))) h.says.start_is ∙ by_length (form_of h.half.now) in
+    λ i. not (eqb (page i) 0) || not (eqb (slot i) 0) || not (eqb c.args.half 0) || pending i || not (eqb (restarts i) 0) || older i

@@ -1,31 +1,14 @@
--- `hex_digits::decode` meets its contract: the first i bytes are decoded, and the rest is as it was. Assumes nothing.
-use mathlib.Core.Path.{sym, ◌∙◌}
-use Prim.Native.Nat.{◌*◌}
-use native.Mathlib.Omega.{arith}
-use lib.ListN.{length-set}
-use lib.Seq.{paste-zero}
-use borrow.Author.Rules.{rules}
-use Rattle.octets.proofs.Tables.{length_table, get_or_table, paste_more, paste_all}
+-- `hex_digits::decode` meets its contract: the first i bytes are decoded. Assumes nothing.
+use Rattle.std.proofs.Common.{◌≡◌, ◌*◌, ℕ, arith, length, length-take}
+use Rattle.octets.proofs.Laws.{put_front}
+use Rattle.octets.proofs.Tables.{is_table, length_table}
 use Rattle.hex_digits.specs.Digits.{pair, decoded}
 use Rattle.hex_digits.proofs.decode.Goals as goal
-
-pub loop-i-init : goal.loop-i-init
-loop-i-init c = let a = c.args in (search rules, search rules, paste-zero _ 0 (decoded a.s.now a.n))
-
-pub loop-i-preserved : goal.loop-i-preserved
-loop-i-preserved c =
-    let a = c.args in
-    let k = c.loop-i in
-    let s = a.s.now in (
-      search rules,
-      simp length-set k.invariant.1,
-      paste_more a.out.now (decoded s a.n) _ k.i _ (omega arith) (omega (arith, length_table a.n (λ j. pair s (2 * j)))) k.invariant.2
-          (c.pair.ensures ∙ sym (get_or_table a.n (λ j. pair s (2 * j)) k.i (omega arith))),
-    )
 
 pub returns : goal.returns
 returns c =
     let a = c.args in
     let k = c.loop-i in
-    let s = a.s.now in
-    k.invariant.2 ∙ paste_all a.out.now (decoded s a.n) k.i (omega (arith, length_table a.n (λ j. pair s (2 * j))))
+    let long : length k.byte-items ≡ a.n = omega (arith, length-take {A = ℕ}) in
+    let e : k.byte-items ≡ decoded a.s.now a.n = is_table a.n (λ i. pair a.s.now (2 * i)) k.byte-items long (λ i h. k.invariant i (omega arith)) in
+    rw (put_front, length_table, e)

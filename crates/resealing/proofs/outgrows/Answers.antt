@@ -8,12 +8,13 @@ use Rattle.resealing.proofs.Laws.{lengths_fit}
 use Rattle.resealing.proofs.outgrows.Goals as goal
 
 pub overflow_add-result : goal.overflow_add-result
-overflow_add-result c = omega (arith, c.requires.open_part, lengths_fit c.args.half.now)
+overflow_add-result c = let h = c.args.head.now in omega (arith, h.says.open_is, lengths_fit h.half.now)
 
 pub overflow_add-result-2 : goal.overflow_add-result-2
-overflow_add-result-2 c = omega (arith, c.requires.open_part, c.requires.secret, lengths_fit c.args.half.now)
+overflow_add-result-2 c = let h = c.args.head.now in omega (arith, h.says.open_is, h.says.secret_is, lengths_fit h.half.now)
 
 pub returns : goal.returns
 unfolding outgrows
 returns c =
-    λ i. ltb (length c.args.half.now) (sealed_length Longer (c.requires.open_part i) (c.requires.secret i))
+    let h = c.args.head.now in
+    λ i. ltb (length h.half.now) (sealed_length Longer (h.says.open_is i) (h.says.secret_is i))

@@ -1,7 +1,6 @@
 -- `settings::check` meets its contract: each `if` is a line of the list of stops. Assumes nothing.
-use mathlib.Core.Path.{sym, ap, ◌∙◌}
-use mathlib.Core.Bool.{Bool, cond, ◌||◌}
-use mathlib.Core.Option.{none, some}
+use Rattle.std.proofs.Common.{Bool, ◌||◌, cond, sym, ap, ◌∙◌}
+use Rattle.std.proofs.Math.Option.{none, some}
 use Rattle.stops.proofs.Laws.{neither}
 use Rattle.settings.proofs.CallLaws.{stops_23, stops_24, stops_25}
 use Rattle.settings.proofs.check.Goals as goal

@@ -1,15 +1,12 @@
--- `aes::cipher::add_round_key` meets its contract: the loop fills the new state.
--- Assumes nothing.
-use mathlib.Core.Path.{refl, sym, ◌∙◌}
-use Rattle.octets.proofs.Tables.{fill_none, fill_more, fill_all}
+-- `aes::cipher::add_round_key` meets its contract, column by column. Assumes nothing.
+use Rattle.std.proofs.Common.{sym, ◌∙◌}
+use Rattle.aes.proofs.Columns.{xor_words, four}
 use Rattle.aes.proofs.Steps.{add_round_key_is}
 use Rattle.aes.proofs.cipher.add_round_key.Goals as goal
 
-pub loop-i-preserved : goal.loop-i-preserved
-loop-i-preserved c = fill_more _ c.loop-i.invariant c.loop-i-test.true refl
-
 pub returns : goal.returns
-returns c = fill_all c.loop-i.invariant c.loop-i-test.false ∙ sym (add_round_key_is _ _ _)
-
-pub loop-i-init : goal.loop-i-init
-loop-i-init c = fill_none _ _ _ refl
+returns c =
+    c.join.ensures
+    ∙ four (xor_words _ _ c.load.ensures c.load-2.ensures) (xor_words _ _ c.load-3.ensures c.load-4.ensures)
+    (xor_words _ _ c.load-5.ensures c.load-6.ensures) (xor_words _ _ c.load-7.ensures c.load-8.ensures)
+    ∙ sym (add_round_key_is _ _ _)

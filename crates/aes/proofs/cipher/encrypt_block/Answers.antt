@@ -19,5 +19,5 @@ loop-round-preserved c =
 pub returns : goal.returns
 unfolding cipher
 returns c =
-    let e : c.loop-round.round ≡ c.args.rounds = omega arith in
+    let e : c.loop-round.round ≡ c.args.schedule.now.rounds = omega arith in
     cc

@@ -6,7 +6,7 @@ use Rattle.aes.specs.Cipher.{rounds}
 use Rattle.aes.proofs.cipher.encrypt_block.Given as goal
 
 abbrev pub invariant-loop-round : goal.invariant-loop-round
-invariant-loop-round l = (0 < l.round) × (l.round ≤ l.rounds) × (l.s ≡ rounds l.keys l.initial.s (l.round - 1))
+invariant-loop-round l = (0 < l.round) × (l.round ≤ l.schedule.rounds) × (l.s ≡ rounds l.schedule.keys.now l.initial.s (l.round - 1))
 
 abbrev pub decreases-loop-round : goal.decreases-loop-round
-decreases-loop-round l = l.rounds - l.round
+decreases-loop-round l = l.schedule.rounds - l.round

@@ -1,7 +1,7 @@
 -- `aes::table::look` meets its contract: a byte is below 256.
 -- Assumes nothing.
-use borrow.Author.Rules.{rules}
+use Rattle.std.proofs.Common.{◌<◌, rules}
 use Rattle.aes.proofs.table.look.Goals as goal
 
 pub returns : goal.returns
-returns c = c.requires.entry c.args.x (search rules)
+returns c = let small : c.args.x < 256 = search rules in rw c.from.ensures (c.requires.entry c.args.x small)

@@ -1,9 +1,5 @@
 -- `checkpoint::half::good_tag` meets its contract. Assumes nothing.
-use mathlib.Core.Path.{◌≡◌, ap, ◌∙◌}
-use mathlib.Core.Bool.{Bool}
-use mathlib.Core.List.{List}
-use Prim.Native.Nat.{ℕ, ◌+◌, ◌-◌}
-use native.Mathlib.Omega.{arith}
+use Rattle.std.proofs.Common.{◌≡◌, ℕ, ◌+◌, ◌-◌, Bool, List, ap, ◌∙◌, arith}
 use Rattle.octets.specs.Limits.{tag_length, part_limit}
 use Rattle.octets.specs.Octets.{part, same}
 use Rattle.aes.specs.Cipher.{aes}
@@ -25,22 +21,32 @@ compared form key nonce half CIPH b m n stored right r e w x y f g h =
     ∙ ap (λ (l : ℕ). same (part half (b + m + n) tag_length) (AE_tag CIPH nonce (part half 0 (b + m)) (part half (b + m) l))) k
     ∙ (λ i. same (part half (w i + x i + y i) tag_length) (AE_tag (e i) nonce (part half 0 (w i + x i)) (part half (w i + x i) (y i))))
 
+pub overflow_add-i : goal.overflow_add-i
+overflow_add-i c =
+    let h = c.args.head.now in
+    let f = head_facts part_limit (form_of h.half.now) h.half.now h.says.good in
+    omega (arith, f.open_small, head_small (form_of h.half.now), h.says.start_is, h.says.open_is)
+
+pub overflow_add-j : goal.overflow_add-j
+overflow_add-j c =
+    let h = c.args.head.now in
+    let f = head_facts part_limit (form_of h.half.now) h.half.now h.says.good in
+    omega (arith, f.open_small, head_small (form_of h.half.now), f.secret_small, h.says.start_is, h.says.open_is, h.says.secret_is)
+
 pub tag_at-right-requires : goal.tag_at-right-requires
 tag_at-right-requires c =
-    let f = head_facts part_limit (form_of c.args.half.now) c.args.half.now c.requires.2 in
-    (c.requires.0, c.requires.1, omega arith, omega (arith, f.open_small, head_small (form_of c.args.half.now), f.secret_small, c.requires.3, c.requires.4, c.requires.5), omega (arith, f.fits, c.requires.3, c.requires.4, c.requires.5))
+    let h = c.args.head.now in
+    let p = h.says in
+    let f = head_facts part_limit (form_of h.half.now) h.half.now p.good in
+    (c.requires, omega arith, omega (arith, f.open_small, head_small (form_of h.half.now), f.secret_small, p.start_is, p.open_is, p.secret_is), omega (arith, f.fits, p.start_is, p.open_is, p.secret_is))
 
 pub part-requires : goal.part-requires
 part-requires c =
-    omega (arith, (head_facts part_limit (form_of c.args.half.now) c.args.half.now c.requires.2).fits, c.requires.3, c.requires.4, c.requires.5)
+    let h = c.args.head.now in
+    let p = h.says in
+    omega (arith, (head_facts part_limit (form_of h.half.now) h.half.now p.good).fits, p.start_is, p.open_is, p.secret_is)
 
 pub returns : goal.returns
 returns c key e =
-    let a = c.args in
-    compared (form_of a.half.now) key a.nonce.now a.half.now _ a.start a.«open» a.secret _ _ _ e c.requires.3 c.requires.4 c.requires.5 c.tag_at-right.ensures c.part.ensures.0 c.same.ensures
-
-pub overflow_add-i : goal.overflow_add-i
-overflow_add-i c = let f = head_facts part_limit (form_of c.args.half.now) c.args.half.now c.requires.2 in omega (arith, f.open_small, head_small (form_of c.args.half.now), c.requires.3, c.requires.4)
-
-pub overflow_add-j : goal.overflow_add-j
-overflow_add-j c = let f = head_facts part_limit (form_of c.args.half.now) c.args.half.now c.requires.2 in omega (arith, f.open_small, head_small (form_of c.args.half.now), f.secret_small, c.requires.3, c.requires.4, c.requires.5)
+    let h = c.args.head.now in
+    compared (form_of h.half.now) key c.args.nonce.now h.half.now _ h.start h.open_part h.secret _ _ _ e h.says.start_is h.says.open_is h.says.secret_is c.tag_at-right.ensures c.part.ensures.0 c.same.ensures

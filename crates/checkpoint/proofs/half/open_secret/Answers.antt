@@ -1,8 +1,5 @@
 -- `checkpoint::half::open_secret` meets its contract. Assumes nothing.
-use mathlib.Core.Path.{◌≡◌, ap, ◌∙◌}
-use mathlib.Core.List.{List}
-use Prim.Native.Nat.{ℕ, ◌+◌}
-use native.Mathlib.Omega.{arith}
+use Rattle.std.proofs.Common.{◌≡◌, ℕ, ◌+◌, List, ap, ◌∙◌, arith}
 use Rattle.octets.specs.Limits.{part_limit}
 use Rattle.octets.specs.Octets.{part, put}
 use Rattle.aes.specs.Cipher.{aes}
@@ -20,14 +17,17 @@ unfolding stored stored_cipher encrypted
 decrypted form key nonce half CIPH b m n text state out e w x y f g =
     g ∙ ap (λ (t : List ℕ). put state 0 (AE_text CIPH nonce t)) f ∙ (λ i. put state 0 (AE_text (e i) nonce (part half (w i + x i) (y i))))
 
-pub part-requires : goal.part-requires
-part-requires c =
-    omega (arith, (head_facts part_limit (form_of c.args.half.now) c.args.half.now c.requires.4).fits, c.requires.5, c.requires.6, c.requires.7)
+pub overflow_add-head : goal.overflow_add-head
+overflow_add-head c =
+    let h = c.args.head.now in
+    omega (arith, (head_facts part_limit (form_of h.half.now) h.half.now h.says.good).open_small, head_small (form_of h.half.now), h.says.start_is, h.says.open_is)
+
+pub part-sealed-requires : goal.part-sealed-requires
+part-sealed-requires c =
+    let h = c.args.head.now in
+    omega (arith, (head_facts part_limit (form_of h.half.now) h.half.now h.says.good).fits, h.says.start_is, h.says.open_is, h.says.secret_is)
 
 pub returns : goal.returns
 returns c key e =
-    let a = c.args in
-    decrypted (form_of a.half.now) key a.nonce.now a.half.now _ a.start a.«open» a.secret _ a.state.now _ e c.requires.5 c.requires.6 c.requires.7 c.part.ensures.0 c.encrypt.ensures
-
-pub overflow_add-start : goal.overflow_add-start
-overflow_add-start c = omega (arith, (head_facts part_limit (form_of c.args.half.now) c.args.half.now c.requires.4).open_small, head_small (form_of c.args.half.now), c.requires.5, c.requires.6)
+    let h = c.args.head.now in
+    decrypted (form_of h.half.now) key c.args.nonce.now h.half.now _ h.start h.open_part h.secret _ c.args.state.now _ e h.says.start_is h.says.open_is h.says.secret_is c.part-sealed.ensures.0 c.encrypt.ensures

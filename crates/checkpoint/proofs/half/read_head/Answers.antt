@@ -32,17 +32,17 @@ module _ (half : List ℕ) (w k : ℕ) (e : w ≡ word_at half 0) (f : k ≡ kin
   unfolding stored_packet value_at
   packet v g = g ∙ ap value_of e
 
-pub returns-then-kind-eq1 : goal.returns-then-kind-eq1
+pub read_words-requires : goal.read_words-requires
 unfolding kinds_from stored_packet
-returns-then-kind-eq1 c =
+read_words-requires c =
     let half = c.args.half.now in
     let form = older half _ _ c.word_at-first.ensures c.kind_of-kind.ensures c.if-kind-eq1.true in
-    rw form (c.read_words.ensures Older refl refl refl)
+    rw form (refl, refl, refl, c.requires)
 
-pub returns-else-kind-eq1 : goal.returns-else-kind-eq1
-returns-else-kind-eq1 c =
+pub read_words-requires-else-kind-eq1 : goal.read_words-requires-else-kind-eq1
+read_words-requires-else-kind-eq1 c =
     let half = c.args.half.now in
     let e = c.word_at-first.ensures in
     let f = c.kind_of-kind.ensures in
     let form = longer half _ _ e f c.if-kind-eq1.false in
-    rw form (c.read_words-else-kind-eq1.ensures Longer refl (front half _ _ e f) (packet half _ _ e f _ c.value_of.ensures.0))
+    rw form (refl, front half _ _ e f, packet half _ _ e f _ c.value_of.ensures.0, c.requires)

@@ -1,14 +1,10 @@
 -- `checkpoint::half::tag_at` meets its contract. Assumes nothing.
-use native.Mathlib.Omega.{arith}
-use lib.ListN.{length-take, length-drop}
-use borrow.Author.Rules.{rules}
+use Rattle.std.proofs.Common.{arith, length-take, length-drop, rules}
 use Rattle.octets.specs.Octets.{part}
 use Rattle.checkpoint.proofs.half.tag_at.Goals as goal
 
 pub tag_of-requires : goal.tag_of-requires
-tag_of-requires c =
-    let p = c.requires.0 in
-    (p.0, p.1, p.2, p.3, search rules, simp length-take (omega arith), simp (length-take, length-drop) (omega arith))
+tag_of-requires c = (search rules, simp length-take (omega arith), simp (length-take, length-drop) (omega arith))
 
 pub returns : goal.returns
 unfolding part

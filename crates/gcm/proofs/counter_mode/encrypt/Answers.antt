@@ -11,4 +11,4 @@ text_made CIPH IV P d t b twelve hb ht = ht ∙ ap (λ (l : List ℕ). put d 0 (
 
 pub returns : goal.returns
 returns c =
-    text_made _ c.args.nonce.now _ _ _ _ c.requires.3 c.counter_block.ensures c.gctr.ensures
+    text_made _ c.args.nonce.now _ _ _ _ c.requires.0 c.counter_block.ensures c.gctr.ensures

@@ -1,5 +1,5 @@
 -- `gcm::counter_mode::inc32` meets its contract. Assumes nothing.
-use Rattle.std.proofs.Common.{◌≡◌, ℕ, ◌+◌, ◌%◌, ◌^◌, List, ◌++◌, length, take, ap, ◌∙◌, rules}
+use Rattle.std.proofs.Common.{◌≡◌, ℕ, ◌+◌, ◌%◌, ◌^◌, List, ◌++◌, length, take, refl, ap, ◌∙◌, rules}
 use Rattle.octets.specs.Octets.{part, bytes}
 use Rattle.octets.specs.Word.{word_at}
 use Rattle.octets.proofs.Numbers.{length_bytes}
@@ -15,5 +15,5 @@ pub returns : goal.returns
 unfolding part
 returns c =
     let X = c.args.block in
-    last_four X _ _ (search rules) (ap length c.word_bytes-last.ensures ∙ length_bytes 4 c.wrapping_add_u32.result) c.copy.ensures
-    ∙ counted X _ _ _ c.word_at.ensures c.wrapping_add_u32.ensures.value c.word_bytes-last.ensures
+    last_four X _ _ (search rules) (ap length c.word_bytes-last.ensures ∙ length_bytes 4 _) c.copy.ensures
+    ∙ counted X _ _ _ c.word_at.ensures refl c.word_bytes-last.ensures

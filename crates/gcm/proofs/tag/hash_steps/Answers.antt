@@ -11,4 +11,4 @@ steps_made CIPH h t v hh hv s = subst (λ (x : ℕ). Steps x t) (hv ∙ ap (λ (
 
 pub returns : goal.returns
 returns c =
-    steps_made _ _ _ _ c.encrypt_block-h.ensures c.block_at.ensures c.steps-t.ensures
+    steps_made _ _ _ _ c.encrypt_block-h.ensures c.block_of.ensures c.steps-t.ensures

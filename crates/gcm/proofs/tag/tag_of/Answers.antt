@@ -20,4 +20,4 @@ tag_made CIPH IV A C zeros b s t x twelve long hx hs hb ht =
 
 pub returns : goal.returns
 returns c =
-    tag_made _ c.args.nonce.now _ _ _ _ _ _ _ c.requires.4 refl (c.ghash.ensures _ c.requires.3) c.block_bytes-s.ensures c.counter_block.ensures c.gctr.ensures
+    tag_made _ c.args.nonce.now _ _ _ _ _ _ _ c.requires.0 refl (c.ghash.ensures _ c.args.prepared.now.steps_right) c.block_bytes-s.ensures c.counter_block.ensures c.gctr.ensures

@@ -1,40 +1,23 @@
--- `hex_lines::write::sum` meets its contract: the first i bytes are summed. Assumes nothing.
-use mathlib.Core.Path.{refl, ap, ◌∙◌}
-use native.Mathlib.Omega.{arith}
-use lib.Seq.{take_all}
+-- `hex_lines::write::sum` meets its contract. Assumes nothing.
+use Rattle.std.proofs.Common.{◌≡◌, ℕ, suc, ◌+◌, ◌*◌, ◌≤◌, List, [], ◌∷◌, length, refl, ap, ◌∙◌, rules, arith}
+use Rattle.std.specs.List.{sum_by}
+use Rattle.std.proofs.lemmas.List.Sums.{sum_by-cons}
+use Rattle.octets.specs.Octets.{Bytes}
 use Rattle.hex_lines.specs.Format.{sum}
-use Rattle.hex_lines.proofs.WriteLaws.{sum_more}
 use Rattle.hex_lines.proofs.write.sum.Goals as goal
 
-pub loop-i-init : goal.loop-i-init
+summed : (s : List ℕ) → sum_by (λ b. b) s ≡ sum s
 unfolding sum
-loop-i-init c = (omega arith, refl, omega arith, refl)
+summed [] = refl
+summed (b ∷ s) = sum_by-cons (λ b. b) b s ∙ ap (λ n. b + n) (summed s)
 
-pub loop-i-preserved : goal.loop-i-preserved
-loop-i-preserved c =
-    let k = c.loop-i in (
-      omega arith,
-      k.invariant.1,
-      omega (arith, c.type_inv.s k.i),
-      sum_more c.args.s.now k.i k.total (omega arith) k.invariant.3,
-    )
+bounded : (s : List ℕ) → Bytes s → sum s ≤ 255 * length s
+unfolding sum
+bounded [] h = omega arith
+bounded (b ∷ s) h = omega (arith, h 0, bounded s (λ i. h (suc i)))
 
 pub returns : goal.returns
 returns c =
-    let k = c.loop-i in
-    (k.invariant.3 ∙ ap sum (take_all k.i c.args.s.now (omega arith)), omega arith)
-
-pub bounds-s-i : goal.bounds-s-i
-bounds-s-i c = omega arith
-
-pub overflow_cast-total : goal.overflow_cast-total
-overflow_cast-total c = omega (arith, c.type_inv.s c.loop-i.i)
-
-pub overflow_add-total : goal.overflow_add-total
-overflow_add-total c = omega (arith, c.type_inv.s c.loop-i.i)
-
-pub overflow_step-i : goal.overflow_step-i
-overflow_step-i c = omega arith
-
-pub loop-i-smaller : goal.loop-i-smaller
-loop-i-smaller c = omega arith
+    let e : c.sum.result ≡ sum_by (λ b. b) c.args.s.now = search rules in
+    let f : c.sum.result ≡ sum c.args.s.now = e ∙ summed _ in
+    (f, omega (arith, f, bounded c.args.s.now (λ i. omega (arith, c.type_inv.s i))))

@@ -1,26 +1,19 @@
--- `intel_hex::import::import_image` meets its contract. Assumes nothing.
-use mathlib.Core.Path.{sym, ap, ◌∙◌}
-use Rattle.stops.specs.View.{check_number}
+-- `intel_hex::import_image` meets its contract. Assumes nothing.
+use Rattle.std.proofs.Common.{sym, ◌∙◌}
+use Rattle.std.proofs.lemmas.Result.{err_from_is_err_and}
 use Rattle.intel_hex.proofs.ImportLaws.{import_refused, import_done, stop_image, stop_text}
 use Rattle.intel_hex.proofs.import.import_image.Goals as goal
 
 pub returns-then-image_wrong : goal.returns-then-image_wrong
-returns-then-image_wrong c =
-    let a = c.args in
-    import_refused a.text.now a.image.now 2 (stop_image a.text.now a.image.now (sym c.image_wrong.ensures ∙ c.if-image_wrong.true))
+returns-then-image_wrong c = import_refused _ _ 2 (stop_image _ _ (sym c.if-image_wrong.ensures))
+
+pub returns-in_err-text_check : goal.returns-in_err-text_check
+returns-in_err-text_check c =
+    let p = err_from_is_err_and c.from_residual.result c.from_residual.ensures.1 in
+    rw (p.1, p.2) (import_refused _ _ _ (c.in_err-text_check.ensures ∙ sym (stop_text _ _ (sym c.if-image_wrong.ensures))))
 
 pub store_text-requires : goal.store_text-requires
-store_text-requires c = sym c.text_check-check.ensures ∙ ap check_number c.in-Pass.is
+store_text-requires c = sym c.in_ok-text_check.ensures
 
-pub returns-in-Stopped : goal.returns-in-Stopped
-returns-in-Stopped c =
-    let a = c.args in
-    import_refused a.text.now a.image.now _
-    (sym (ap check_number c.in-Stopped.is) ∙ c.text_check-check.ensures ∙ sym (stop_text a.text.now a.image.now (sym c.image_wrong.ensures ∙ c.if-image_wrong.false)))
-
-pub returns-in-Pass : goal.returns-in-Pass
-returns-in-Pass c =
-    let a = c.args in
-    import_done a.text.now a.image.now _
-    (stop_text a.text.now a.image.now (sym c.image_wrong.ensures ∙ c.if-image_wrong.false) ∙ sym c.text_check-check.ensures ∙ ap check_number c.in-Pass.is)
-    c.store_text.ensures
+pub returns : goal.returns
+returns c = import_done _ _ _ (stop_text _ _ (sym c.if-image_wrong.ensures) ∙ sym c.in_ok-text_check.ensures) c.store_text.ensures

@@ -1,5 +1,5 @@
 -- `intel_hex::import::store_line` meets its contract. Assumes nothing.
-use mathlib.Core.Path.{◌≡◌, sym, ap, ap₂, subst, ◌∙◌}
+use mathlib.Core.Path.{◌≡◌, sym, ap, ap₂, ◌∙◌}
 use mathlib.Core.List.{List}
 use Prim.Native.Nat.{ℕ, ◌+◌, ◌-◌, ◌*◌, ◌≤◌}
 use native.Mathlib.Omega.{arith}
@@ -16,7 +16,7 @@ use Rattle.intel_hex.specs.Import.{data_place, image_after}
 use Rattle.intel_hex.specs.declared.import.Reading.{Reading}
 use Rattle.hex_lines.specs.declared.read.Line.{Line}
 use Rattle.intel_hex.proofs.TextLaws.{begun}
-use Rattle.intel_hex.proofs.ImportLaws.{image_data, image_other, data_decoded}
+use Rattle.intel_hex.proofs.ImportLaws.{image_data, image_other, data_decoded, whole_rest}
 use Rattle.intel_hex.proofs.import.store_line.Goals as goal
 
 -- the data fit the image, and their digits stand in the text
@@ -41,20 +41,15 @@ put_data s image zs d r l p o k e f ed ez =
     ∙ ap₂ (put image) (e ∙ ap (λ (x : ℕ). r.upper * boundary + x) o.address) (ap (decoded (drop 9 s)) o.length ∙ data_decoded s)
     ∙ image_data s image r (sym o.kind ∙ k)
 
-pub rest-requires : goal.rest-requires
-rest-requires c =
-    omega (arith, (begun c.args.s.now c.requires.0).inside)
-
 pub decode-requires : goal.decode-requires
 decode-requires c =
     let k = room _ _ c.args.reading c.args.line _ c.requires.0 c.requires.1 c.requires.3 c.if-line-eq-DATA_LINE.true c.data_place-place.ensures.0 in
-    let e = c.rest.ensures in
-    (subst (λ (d : List ℕ). 2 * c.args.line.length ≤ length d) (sym e) k.digits, omega (arith, k.fits))
+    (rw (whole_rest 9 c.args.s.now) k.digits, rw (whole_rest _ c.args.image.now, length-drop) (omega (arith, k.fits)))
 
 pub returns-then-line-eq-DATA_LINE : goal.returns-then-line-eq-DATA_LINE
 returns-then-line-eq-DATA_LINE c =
     let a = c.args in
-    put_data a.s.now a.image.now _ _ a.reading a.line _ c.requires.1 c.if-line-eq-DATA_LINE.true c.data_place-place.ensures.0 (room _ _ c.args.reading c.args.line _ c.requires.0 c.requires.1 c.requires.3 c.if-line-eq-DATA_LINE.true c.data_place-place.ensures.0) c.rest.ensures c.decode.ensures
+    put_data a.s.now a.image.now _ _ a.reading a.line _ c.requires.1 c.if-line-eq-DATA_LINE.true c.data_place-place.ensures.0 (room _ _ a.reading a.line _ c.requires.0 c.requires.1 c.requires.3 c.if-line-eq-DATA_LINE.true c.data_place-place.ensures.0) (whole_rest 9 a.s.now) c.decode.ensures
 
 pub returns-else-line-eq-DATA_LINE : goal.returns-else-line-eq-DATA_LINE
 returns-else-line-eq-DATA_LINE c =
@@ -65,7 +60,7 @@ pub data_place-place-requires : goal.data_place-place-requires
 data_place-place-requires c = omega (arith, c.requires.1.low)
 
 pub slice_bounds-decode-count : goal.slice_bounds-decode-count
-slice_bounds-decode-count c = omega (arith, (room _ _ c.args.reading c.args.line _ c.requires.0 c.requires.1 c.requires.3 c.if-line-eq-DATA_LINE.true c.data_place-place.ensures.0).fits)
+slice_bounds-decode-count c = omega (arith, (begun c.args.s.now c.requires.0).inside)
 
 pub slice_bounds-decode-start : goal.slice_bounds-decode-start
-slice_bounds-decode-start c = omega (arith, (room _ _ c.args.reading c.args.line _ c.requires.0 c.requires.1 c.requires.3 c.if-line-eq-DATA_LINE.true c.data_place-place.ensures.0).fits)
+slice_bounds-decode-start c = omega (arith, (begun c.args.s.now c.requires.0).inside)

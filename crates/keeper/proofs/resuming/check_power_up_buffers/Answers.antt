@@ -11,5 +11,5 @@ pub returns : goal.returns
 unfolding staging_wrong state_wrong half_length
 returns c =
     let a = c.args in
-    buffers_tried a.ring.now a.fram.now (powers_up a.pages a.slots a.key.now a.nonce.now a.staging.now a.state.now) _ _ _ _ _
-    c.check_memories.ensures (λ i. c.key_wrong.ensures i || c.nonce_wrong.ensures i) refl c.stop_if.ensures c.stop_if-2.ensures
+    buffers_tried a.memories.now.ring.now a.memories.now.fram.now (powers_up a.memories.now.pages a.memories.now.slots a.key.now a.nonce.now a.staging.now a.state.now) _ _ _ _ _
+    c.check.ensures (λ i. c.key_wrong.ensures i || c.nonce_wrong.ensures i) refl c.stop_if.ensures c.stop_if-2.ensures

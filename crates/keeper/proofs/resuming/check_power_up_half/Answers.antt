@@ -1,5 +1,5 @@
 -- `keeper::resuming::check_power_up_half` meets its contract. Assumes nothing.
-use mathlib.Core.Path.{◌≡◌, sym, ap, ◌∙◌}
+use mathlib.Core.Path.{◌≡◌, ap, ◌∙◌}
 use mathlib.Core.Bool.{Bool, true, false, not}
 use mathlib.Core.Option.{Option, some}
 use mathlib.Core.List.{List, ◌∷◌}
@@ -37,29 +37,16 @@ module _ (key newest fram : List ℕ) (used : Bool) (h : ℕ) (half : List ℕ) 
       let first : some 11 ≡ first_of (lines half (take nonce_length newest)) = rw bad in
       first ∙ (λ i. first_of (lines (half_is i) (take nonce_length newest)))
 
-pub read_head-head-requires : goal.read_head-head-requires
-read_head-head-requires c =
-    half_long_enough c.args.fram.now c.half_at-half.result.now c.requires.0 c.half_at-half.ensures.1
+pub read_head-requires : goal.read_head-requires
+read_head-requires c = half_long_enough c.args.fram.now c.half_at.result.now c.requires.0 c.half_at.ensures.1
 
-pub good_tag_under-good-requires : goal.good_tag_under-good-requires
-good_tag_under-good-requires c =
-    let p = c.requires in
-    let head = c.read_head-head.ensures in
-    (p.1, c.part-latest.ensures.1, sym head.0 ∙ c.if-head.true, head.1, head.3, head.4)
-
-pub check_opening-requires : goal.check_opening-requires
-check_opening-requires c =
-    let head = c.read_head-head.ensures in
-    record { start = head.1; packet = head.2; open_part = head.3; secret = head.4; restarts = head.5 }
-
-pub returns-then-head : goal.returns-then-head
-returns-then-head c =
+pub returns-in_default : goal.returns-in_default
+returns-in_default c =
     let a = c.args in
-    opened a.key.now a.«record».now a.fram.now a.used _ _ c.half_named.ensures c.half_at-half.ensures.0 _ _ _
-    c.part-latest.ensures.0 (sym c.read_head-head.ensures.0 ∙ c.if-head.true) c.good_tag_under-good.ensures c.check_opening.ensures
+    not_opened a.key.now a.«record».now a.fram.now a.used _ _ c.half_named.ensures (c.in_default.ensures ∙ c.half_at.ensures.0) c.in_default.field-0.says.good
 
 pub returns : goal.returns
 returns c =
     let a = c.args in
-    not_opened a.key.now a.«record».now a.fram.now a.used _ _ c.half_named.ensures c.half_at-half.ensures.0
-    (sym c.read_head-head.ensures.0 ∙ c.if-head.false)
+    opened a.key.now a.«record».now a.fram.now a.used _ _ c.half_named.ensures (c.in-Ok.ensures ∙ c.half_at.ensures.0) _ _ _
+    c.part.ensures.0 c.in-Ok.head.says.good c.good_tag_under-good.ensures c.check_opening.ensures

@@ -1,8 +1,7 @@
 -- `keeper::resuming::restore` meets its contract. Assumes nothing.
-use mathlib.Core.Path.{sym, ap, ◌∙◌}
-use native.Mathlib.Omega.{arith}
+use Rattle.std.proofs.Common.{refl, sym, arith}
+use Rattle.std.proofs.lemmas.Result.{err_from_is_err_and}
 use Rattle.octets.specs.Limits.{part_limit}
-use Rattle.stops.specs.View.{check_number}
 use Rattle.checkpoint.specs.Half.{form_of}
 use Rattle.checkpoint.proofs.StoredLaws.{head_facts}
 use Rattle.jobs.specs.View.{view_phase}
@@ -10,29 +9,33 @@ use Rattle.keeper.proofs.ResumeLaws.{restore_stops, restore_begins}
 use Rattle.keeper.proofs.resuming.restore.Goals as goal
 
 pub overflow_add-job : goal.overflow_add-job
-overflow_add-job c = omega (arith, c.requires.4.open_part, (head_facts part_limit (form_of c.args.half.now) c.args.half.now c.requires.3).open_small)
+overflow_add-job c =
+    let h = c.args.restart.now.head in
+    omega (arith, h.says.open_is, (head_facts part_limit (form_of h.half.now) h.half.now h.says.good).open_small)
 
-pub overflow_add-job-in-Pass : goal.overflow_add-job-in-Pass
-overflow_add-job-in-Pass c =
-    let f = head_facts part_limit (form_of c.args.half.now) c.args.half.now c.requires.3 in
-    omega (arith, c.requires.4.open_part, c.requires.4.secret, f.open_small, f.secret_small)
+pub overflow_add-job-2 : goal.overflow_add-job-2
+overflow_add-job-2 c =
+    let h = c.args.restart.now.head in
+    let f = head_facts part_limit (form_of h.half.now) h.half.now h.says.good in
+    omega (arith, h.says.open_is, h.says.secret_is, f.open_small, f.secret_small)
 
-pub overflow_add-job-in-Pass-2 : goal.overflow_add-job-in-Pass-2
-overflow_add-job-in-Pass-2 c =
-    omega (arith, c.requires.4.restarts, (head_facts part_limit (form_of c.args.half.now) c.args.half.now c.requires.3).restarts_small)
+pub overflow_add-job-3 : goal.overflow_add-job-3
+overflow_add-job-3 c =
+    let h = c.args.restart.now.head in
+    omega (arith, h.says.restarts_is, (head_facts part_limit (form_of h.half.now) h.half.now h.says.good).restarts_small)
 
-pub returns-in-Stopped : goal.returns-in-Stopped
-returns-in-Stopped c =
+pub returns-in_err-tag : goal.returns-in_err-tag
+returns-in_err-tag c =
     let a = c.args in
-    let made = c.reseal-resealed.ensures in
-    let told = ap check_number c.in-Stopped.is in
-    let left = made.stops told in
-    restore_stops _ _ _ a.key.now _ _ a.staging.now _ a.state.now _ _ (sym made.check ∙ told) (c.not_resumed.ensures _ _) left.0 left.1
+    let made = c.in_err-tag.ensures in
+    let left = made.stops _ refl in
+    let p = err_from_is_err_and c.from_residual.result c.from_residual.ensures.1 in
+    rw (p.1, p.2) (restore_stops _ _ _ a.key.now _ _ a.staging.now _ a.state.now _ _ (sym made.check) refl left.0 left.1)
 
-pub returns-in-Pass : goal.returns-in-Pass
-returns-in-Pass c =
+pub returns : goal.returns
+returns c =
     let a = c.args in
-    let made = c.reseal-resealed.ensures in
-    let told = ap check_number c.in-Pass.is in
-    restore_begins a.key.now a.latest.now a.half.now a.nonce.now c.requires.3 _ a.head.packet a.head.«open» a.head.secret a.head.restarts a.other a.page a.slot (view_phase a.phase) _
-    a.staging.now _ a.state.now _ _ (sym made.check ∙ told) c.requires.4.packet c.requires.4.open_part c.requires.4.secret c.requires.4.restarts c.twelve.ensures (made.begins told)
+    let h = a.restart.now.head in
+    let made = c.in_ok-tag.ensures in
+    restore_begins a.key.now a.restart.now.latest.now h.half.now a.restart.now.nonce.now h.says.good _ h.packet h.open_part h.secret h.restarts a.target.half a.target.page a.target.slot (view_phase a.phase) _
+    a.staging.now _ a.state.now _ _ (sym made.check) h.says.packet_is h.says.open_is h.says.secret_is h.says.restarts_is c.array.ensures (made.begins _ refl)

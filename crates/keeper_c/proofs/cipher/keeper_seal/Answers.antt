@@ -1,7 +1,5 @@
 -- `keeper_c::cipher::keeper_seal` meets its contract. Assumes nothing.
-use mathlib.Core.Path.{sym, ap, ◌∙◌}
-use borrow.Author.Rules.{rules}
-use Rattle.stops.specs.View.{check_number}
+use Rattle.std.proofs.Common.{rules, refl, sym, ◌∙◌}
 use Rattle.keeper_c.proofs.SealLaws.{no_tag, refused, sealed}
 use Rattle.keeper_c.proofs.cipher.keeper_seal.Goals as goal
 
@@ -13,19 +11,19 @@ returns-then-tag_wrong c =
 pub slice_bounds-copy-end : goal.slice_bounds-copy-end
 slice_bounds-copy-end c = search rules
 
-pub returns-in-Stopped : goal.returns-in-Stopped
-returns-in-Stopped c =
+pub returns-in-Err : goal.returns-in-Err
+returns-in-Err c =
     let a = c.args in
     refused a.key.now a.nonce.now a.aad.now a.text.now a.out.now a.tag.now (sym c.tag_wrong.ensures ∙ c.if-tag_wrong.false) _ _ _ _ _
-    (ap check_number c.in-Stopped.is)
-    c.stop_number-in-Stopped.ensures
-    c.seal-sealed.ensures
+    refl
+    c.stop_number-in-Err.ensures
+    c.in-Err.ensures
 
-pub returns-in-Pass : goal.returns-in-Pass
-returns-in-Pass c =
+pub returns-in-Ok : goal.returns-in-Ok
+returns-in-Ok c =
     let a = c.args in
     sealed a.key.now a.nonce.now a.aad.now a.text.now a.out.now a.tag.now (sym c.tag_wrong.ensures ∙ c.if-tag_wrong.false) _ _ _ _
-    (ap check_number c.in-Pass.is)
+    refl
     (search rules)
     c.copy.ensures
-    c.seal-sealed.ensures
+    c.in-Ok.ensures

@@ -1,9 +1,6 @@
 -- `keeper_c::hex::keeper_hex_export` meets its contract. Assumes nothing.
-use mathlib.Core.Path.{◌≡◌, sym, ap, ◌∙◌}
+use Rattle.std.proofs.Common.{◌≡◌, ℕ, List, refl, sym, ap, ◌∙◌}
 use mathlib.Core.Option.{Option, some}
-use mathlib.Core.List.{List}
-use Prim.Native.Nat.{ℕ}
-use Rattle.stops.specs.View.{check_number}
 use Rattle.intel_hex.specs.Export.{Export, export}
 use Rattle.keeper_c.specs.Calls.{exporting_left, exporting_by, export_call}
 use Rattle.keeper_c.proofs.hex.keeper_hex_export.Goals as goal
@@ -15,12 +12,12 @@ called e image text written stop s f = sym (ap (λ (o : Option ℕ). exporting_b
 refused : (e : Export) (image text : List ℕ) (written r n : ℕ) → r ≡ n → e.stop ≡ some n → e ≡ export image text → exporting_left r e.text written ≡ export_call image text written
 refused e image text written r n m s f = ap (λ (k : ℕ). exporting_left k e.text written) m ∙ called e image text written (some n) s f
 
-pub returns-in-Stopped : goal.returns-in-Stopped
-returns-in-Stopped c =
+pub returns-in-Err : goal.returns-in-Err
+returns-in-Err c =
     let a = c.args in
-    refused _ a.image.now a.text.now a.written.now _ _ c.stop_number.ensures (ap check_number c.in-Stopped.is) c.export_image-exported.ensures
+    refused _ a.image.now a.text.now a.written.now _ _ c.stop_number.ensures refl c.in-Err.ensures
 
-pub returns-in-Pass : goal.returns-in-Pass
-returns-in-Pass c =
+pub returns-in-Ok : goal.returns-in-Ok
+returns-in-Ok c =
     let a = c.args in
-    called _ a.image.now a.text.now a.written.now _ (ap check_number c.in-Pass.is) c.export_image-exported.ensures
+    called _ a.image.now a.text.now a.written.now _ refl c.in-Ok.ensures

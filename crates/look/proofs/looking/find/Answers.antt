@@ -1,26 +1,36 @@
 -- `look::looking::find` meets its contract. Assumes nothing.
-use mathlib.Core.Path.{◌≡◌, refl, sym, ap, ◌∙◌}
-use mathlib.Core.List.{[], ◌∷◌}
-use Rattle.stops.specs.Stops.{first_of}
-use Rattle.stops.specs.View.{check_number}
+use Rattle.std.proofs.Common.{[], ◌∷◌, sym}
+use Rattle.std.proofs.lemmas.Result.{err_from_is_err_and}
 use Rattle.stops.proofs.Laws.{one_more, passes}
 use Rattle.look.specs.Stages.{look_buffers}
-use Rattle.look.proofs.LookLaws.{finds_stop, finds}
+use Rattle.look.proofs.LookLaws.{finds_buffers_stop, finds_ring_stop, finds}
 use Rattle.look.proofs.looking.find.Goals as goal
 
-pub read_ring-newest-requires : goal.read_ring-newest-requires
-read_ring-newest-requires c =
-    let buffers_check : let a = c.args in check_number c.stop_if-check.result ≡ first_of (look_buffers a.pages a.slots a.ring.now a.fram.now a.key.now) = one_more (_ ∷ _ ∷ []) 3 _ _ _ _ c.check_memories.ensures c.key_wrong.ensures c.stop_if-check.ensures in
-    (passes _ (sym buffers_check ∙ ap check_number c.in-Pass.is)).0
-
-pub returns-in-Stopped : goal.returns-in-Stopped
-returns-in-Stopped c =
-    let buffers_check : let a = c.args in check_number c.stop_if-check.result ≡ first_of (look_buffers a.pages a.slots a.ring.now a.fram.now a.key.now) = one_more (_ ∷ _ ∷ []) 3 _ _ _ _ c.check_memories.ensures c.key_wrong.ensures c.stop_if-check.ensures in
+pub read-reading-requires : goal.read-reading-requires
+read-reading-requires c =
     let a = c.args in
-    finds_stop a.pages a.slots a.ring.now a.fram.now a.key.now _ (sym buffers_check ∙ ap check_number c.in-Stopped.is) refl refl
+    (passes (look_buffers a.memories.now.pages a.memories.now.slots a.memories.now.ring.now a.memories.now.fram.now a.key.now) (sym (one_more (_ ∷ _ ∷ []) 3 _ _ _ _ c.check.ensures c.key_wrong.ensures c.in_ok-stop_if.ensures))).0
 
-pub returns-in-Pass : goal.returns-in-Pass
-returns-in-Pass c =
-    let buffers_check : let a = c.args in check_number c.stop_if-check.result ≡ first_of (look_buffers a.pages a.slots a.ring.now a.fram.now a.key.now) = one_more (_ ∷ _ ∷ []) 3 _ _ _ _ c.check_memories.ensures c.key_wrong.ensures c.stop_if-check.ensures in
+pub returns-in_err-stop_if : goal.returns-in_err-stop_if
+returns-in_err-stop_if c =
     let a = c.args in
-    finds a.pages a.slots a.ring.now a.fram.now a.key.now _ (sym buffers_check ∙ ap check_number c.in-Pass.is) c.read_ring-newest.ensures.0 c.check_newest.ensures
+    let p = err_from_is_err_and c.from_residual.result c.from_residual.ensures.1 in
+    rw (p.1, p.2)
+    (finds_buffers_stop a.memories.now.pages a.memories.now.slots a.memories.now.ring.now a.memories.now.fram.now a.key.now _
+    (one_more (_ ∷ _ ∷ []) 3 _ _ _ _ c.check.ensures c.key_wrong.ensures c.in_err-stop_if.ensures))
+
+pub returns-in_err-check_newest : goal.returns-in_err-check_newest
+returns-in_err-check_newest c =
+    let a = c.args in
+    let p = err_from_is_err_and c.from_residual-in_err-check_newest.result c.from_residual-in_err-check_newest.ensures.1 in
+    rw (p.1, p.2)
+    (finds_ring_stop a.memories.now.pages a.memories.now.slots a.memories.now.ring.now a.memories.now.fram.now a.key.now c.read-reading.result _
+    (one_more (_ ∷ _ ∷ []) 3 _ _ _ _ c.check.ensures c.key_wrong.ensures c.in_ok-stop_if.ensures)
+    c.read-reading.ensures c.in_err-check_newest.ensures)
+
+pub returns : goal.returns
+returns c =
+    let a = c.args in
+    finds a.memories.now.pages a.memories.now.slots a.memories.now.ring.now a.memories.now.fram.now a.key.now c.read-reading.result
+    (one_more (_ ∷ _ ∷ []) 3 _ _ _ _ c.check.ensures c.key_wrong.ensures c.in_ok-stop_if.ensures)
+    c.read-reading.ensures c.in_ok-check_newest.ensures

@@ -1,34 +1,22 @@
 -- `look::looking::see` meets its contract. Assumes nothing.
-use mathlib.Core.Path.{sym, ap, ◌∙◌}
-use Rattle.stops.specs.View.{check_number}
-use Rattle.look.proofs.LookLaws.{ring_stop, Passed, passed, sees, sees_half}
+use Rattle.std.proofs.lemmas.Result.{err_from_is_err_and}
+use Rattle.look.proofs.LookLaws.{passed, unseen, sees_half}
 use Rattle.look.proofs.looking.see.Goals as goal
 
 pub see_half-requires : goal.see_half-requires
 see_half-requires c =
-    let found_passed : let a = c.args in Passed a.pages a.slots a.ring.now a.fram.now a.key.now c.find-found.result = let a = c.args in
-    passed a.pages a.slots a.ring.now a.fram.now a.key.now _ c.find-found.ensures (ap check_number c.in-Pass.is) in
-    let p = found_passed in
+    let a = c.args in
+    let p = passed a.memories.now.pages a.memories.now.slots a.memories.now.ring.now a.memories.now.fram.now a.key.now _ c.in_ok-reading.ensures in
     (p.fram_right, p.key_long, c.«record».ensures.1, p.names_half _ c.«record».ensures.0)
 
-pub returns-in-Stopped : goal.returns-in-Stopped
-returns-in-Stopped c =
+pub returns-in_err-reading : goal.returns-in_err-reading
+returns-in_err-reading c =
     let a = c.args in
-    sees a.pages a.slots a.ring.now a.fram.now a.key.now _
-    (ring_stop a.pages a.slots a.ring.now a.fram.now a.key.now (sym c.find-found.ensures.stop ∙ ap check_number c.in-Stopped.is))
-    (c.unseen.ensures _ _)
+    let p = err_from_is_err_and c.from_residual.result c.from_residual.ensures.1 in
+    rw (p.1, p.2) (unseen a.memories.now.pages a.memories.now.slots a.memories.now.ring.now a.memories.now.fram.now a.key.now _ c.in_err-reading.ensures.stop)
 
-pub returns-in-Pass : goal.returns-in-Pass
-returns-in-Pass c =
-    let found_passed : let a = c.args in Passed a.pages a.slots a.ring.now a.fram.now a.key.now c.find-found.result = let a = c.args in
-    passed a.pages a.slots a.ring.now a.fram.now a.key.now _ c.find-found.ensures (ap check_number c.in-Pass.is) in
+pub returns : goal.returns
+returns c =
     let a = c.args in
-    let p = found_passed in
-    sees_half a.pages a.slots a.ring.now a.fram.now a.key.now _ _ (p.record_is _ c.«record».ensures.0) p.none_applies c.see_half.ensures
-
-pub record-requires : goal.record-requires
-record-requires c =
-    let a = c.args in
-    let p : Passed a.pages a.slots a.ring.now a.fram.now a.key.now c.find-found.result =
-    passed a.pages a.slots a.ring.now a.fram.now a.key.now _ c.find-found.ensures (ap check_number c.in-Pass.is) in
-    (p.ring_right, p.within)
+    let p = passed a.memories.now.pages a.memories.now.slots a.memories.now.ring.now a.memories.now.fram.now a.key.now _ c.in_ok-reading.ensures in
+    sees_half a.memories.now.pages a.memories.now.slots a.memories.now.ring.now a.memories.now.fram.now a.key.now _ _ (p.record_newest _ c.«record».ensures.0) p.none_applies c.see_half.ensures

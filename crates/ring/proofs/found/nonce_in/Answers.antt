@@ -1,33 +1,17 @@
--- `ring::found::nonce_in` meets its contract: the nonce is in the page if it is in what is left of the page from slot k on. Assumes nothing.
-use Prim.Native.Nat.{ℕ}
-use mathlib.Core.Path.{sym, ◌∙◌}
-use mathlib.Core.List.{List}
-use native.Mathlib.Omega.{arith}
-use native.Mathlib.Nat.{sub-zero}
-use borrow.Author.Rules.{rules}
-use Rattle.octets.specs.Octets.{same}
-use Rattle.ring.proofs.StepLaws.{told, nonce_found, nonce_goes, nonce_ends}
+-- `ring::found::nonce_in` meets its contract. Assumes nothing.
+use Rattle.std.proofs.Common.{◌*◌, rules, arith, refl, ◌∙◌}
+use Rattle.std.proofs.lemmas.Iterator.{YieldsList-from_range}
+use Rattle.std.proofs.lemmas.Iterator.Search.{any_from_yields_List}
+use borrow.Author.Tests.{tests}
+use Rattle.octets.specs.Limits.{slot_length, nonce_length}
+use Rattle.octets.specs.Octets.{part, same}
+use Rattle.ring.proofs.StepLaws.{nonce_in_is}
 use Rattle.ring.proofs.found.nonce_in.Goals as goal
-
-pub loop-k-init : goal.loop-k-init
-loop-k-init c = (search rules, simp sub-zero)
-
-pub returns-then-same : goal.returns-then-same
-returns-then-same c =
-    let k = c.loop-k in
-    let a = c.args in
-    let is = told (λ (l : List ℕ). same l a.nonce.now) c.same.ensures c.part.ensures.0 c.if-same.true in
-    sym (k.invariant.1 ∙ nonce_found a.nonce.now a.page.now a.count k.k (omega arith) is)
-
-pub loop-k-preserved : goal.loop-k-preserved
-loop-k-preserved c =
-    let k = c.loop-k in
-    let a = c.args in
-    let is = told (λ (l : List ℕ). same l a.nonce.now) c.same.ensures c.part.ensures.0 c.if-same.false in
-    (omega arith, k.invariant.1 ∙ nonce_goes a.nonce.now a.page.now a.count k.k (omega arith) is)
 
 pub returns : goal.returns
 returns c =
-    let k = c.loop-k in
-    let a = c.args in
-    sym (k.invariant.1 ∙ nonce_ends a.nonce.now a.page.now a.count k.k (omega arith))
+    let nonce = c.args.nonce.now in
+    let page = c.args.page.now in
+    let n = c.args.count in
+    any_from_yields_List (λ k. same (part page (slot_length * k) nonce_length) nonce) _ _ _ c.any.ensures.ran (YieldsList-from_range 0 n n refl (omega arith)) (λ x b q k. search (rules, tests))
+    ∙ nonce_in_is nonce page 0 n

@@ -25,7 +25,7 @@ three ring slots n s nonce t w p x o₂ o₃ o₄ o₅ e et ew ep ex h k l =
 
 pub returns : goal.returns
 returns c =
-    let a = c.args in
-    three a.ring.now a.slots _ (view_session a.session) a.nonce.now _ _ _ _ _ _ _ _ c.check_newest.ensures
+    let r = c.args.reading.now in
+    three r.ring.bytes.now r.ring.slots _ (view_session c.args.session) c.args.nonce.now _ _ _ _ _ _ _ _ c.check_newest.ensures
     c.not_newest-older.ensures c.session_wrong.ensures c.is_pending.ensures c.nonce_used-used.ensures
     c.stop_if.ensures c.stop_if-2.ensures c.stop_if-3.ensures

@@ -1,17 +1,17 @@
 -- `trace::run_trace` meets its contract: the check picks the case of the definition. Assumes nothing.
-use mathlib.Core.Path.{sym, ap, ◌∙◌}
-use native.Mathlib.Omega.{arith}
-use Rattle.stops.specs.View.{check_number}
+use Rattle.std.proofs.lemmas.Result.{err_from_is_err_and}
 use Rattle.trace.proofs.Outcomes.{trace_passes, refused_run, passed_run}
 use Rattle.trace.proofs.run.run_trace.Goals as goal
 
-pub run_words-written-requires : goal.run_words-written-requires
-run_words-written-requires c =
-    trace_passes _ _ _ _ _ (sym c.trace_check-check.ensures ∙ ap check_number c.in-Pass.is)
+pub run_words-requires : goal.run_words-requires
+run_words-requires c =
+    trace_passes _ _ _ _ _ c.in_ok-trace_check.ensures
 
-pub returns-in-Stopped : goal.returns-in-Stopped
-returns-in-Stopped c = (refused_run _ _ _ _ _ c.in-Stopped.stop _ c.in-Stopped.is c.trace_check-check.ensures, omega arith)
+pub returns-in_err-trace_check : goal.returns-in_err-trace_check
+returns-in_err-trace_check c =
+    let p = err_from_is_err_and c.from_residual.result c.from_residual.ensures.1 in
+    rw (p.1, p.2) (refused_run _ _ _ _ _ _ c.in_err-trace_check.ensures, tt)
 
-pub returns-in-Pass : goal.returns-in-Pass
-returns-in-Pass c =
-    (passed_run _ _ _ _ _ _ _ _ _ (sym c.trace_check-check.ensures ∙ ap check_number c.in-Pass.is) c.run_words-written.ensures, c.run_words-written.ensures.fits)
+pub returns : goal.returns
+returns c =
+    (passed_run _ _ _ _ _ _ _ _ _ c.in_ok-trace_check.ensures c.run_words.ensures, c.run_words.ensures.fits)

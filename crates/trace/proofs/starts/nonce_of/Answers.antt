@@ -1,5 +1,5 @@
 -- `trace::starts::nonce_of` meets its contract: a value below 2^32 has four bytes, behind eight zeros. Assumes nothing.
-use native.Mathlib.Omega.{arith}
+use Rattle.std.proofs.Common.{arith}
 use Rattle.trace.proofs.Laws.{nonce_put}
 use Rattle.trace.proofs.starts.nonce_of.Goals as goal
 

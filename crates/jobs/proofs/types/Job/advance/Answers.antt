@@ -1,16 +1,18 @@
 -- `jobs::types::Job::advance` meets its contract: it stops as the checks say, and else stores. Assumes nothing.
-use mathlib.Core.Path.{sym, ap, ◌∙◌}
-use Rattle.stops.specs.View.{check_number}
+use Rattle.std.proofs.Common.{sym}
+use Rattle.std.proofs.lemmas.Result.{err_from_is_err_and}
 use Rattle.protocol.specs.Operations.{advance_by, advance}
 use Rattle.jobs.proofs.types.Job.advance.Goals as goal
 
 pub store-requires : goal.store-requires
-store-requires c = sym c.check.ensures ∙ ap check_number c.in-Pass.is
+store-requires c = sym c.in_ok-check.ensures
 
-pub returns-in-Stopped : goal.returns-in-Stopped
-unfolding advance
-returns-in-Stopped c = rw (← c.check.ensures, c.in-Stopped.is) (c.refused.ensures _ _ _ _ _)
-
-pub returns-in-Pass : goal.returns-in-Pass
+pub returns-in_err-check : goal.returns-in_err-check
 unfolding advance advance_by
-returns-in-Pass c = rw (← c.check.ensures, c.in-Pass.is) c.store.ensures
+returns-in_err-check c =
+    let p = err_from_is_err_and c.from_residual.result c.from_residual.ensures.1 in
+    rw (p.1, p.2, ← c.in_err-check.ensures)
+
+pub returns : goal.returns
+unfolding advance advance_by
+returns c = rw (← c.in_ok-check.ensures) c.store.ensures

@@ -4,4 +4,4 @@ use Rattle.jobs.proofs.types.Job.ended.Goals as goal
 
 pub returns : goal.returns
 unfolding ended
-returns c ring fram = rw (c.finished-progress.ensures, c.in_phase-job.ensures, c.session-session.ensures)
+returns c ring fram = rw (c.finished.ensures.0, c.finished.ensures.1, c.in_phase.ensures, c.session.ensures)

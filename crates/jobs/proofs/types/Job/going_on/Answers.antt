@@ -4,4 +4,4 @@ use Rattle.jobs.proofs.types.Job.going_on.Goals as goal
 
 pub returns : goal.returns
 unfolding going_on
-returns c ring fram = rw (c.in_phase-job.ensures, c.no_session-session.ensures)
+returns c ring fram = rw c.in_phase.ensures

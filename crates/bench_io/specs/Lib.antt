@@ -1,0 +1,2 @@
+-- What the bench's programs read.
+pub mod Read

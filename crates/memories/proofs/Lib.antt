@@ -1,0 +1,2 @@
+-- Laws of readings.
+pub mod ReadLaws

@@ -1,7 +1,0 @@
--- `ring::found::not_newest` meets its contract: page, slot and record are compared with the newest. Assumes nothing.
-use Rattle.ring.specs.Ring.{not_newest}
-use Rattle.ring.proofs.found.not_newest.Goals as goal
-
-pub returns : goal.returns
-unfolding not_newest
-returns c = rw (c.same.ensures, c.record-record.ensures.0, c.page.ensures, c.slot.ensures)

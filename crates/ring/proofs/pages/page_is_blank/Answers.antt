@@ -1,5 +1,0 @@
--- `ring::pages::page_is_blank` meets its contract: the bytes that are tested are those that the definition names. Assumes nothing.
-use Rattle.ring.proofs.pages.page_is_blank.Goals as goal
-
-pub returns : goal.returns
-returns c = rw (c.blank.ensures, c.page_at.ensures.0)
