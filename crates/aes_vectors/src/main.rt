@@ -5,6 +5,7 @@
 use bench_io::{Console, read_file};
 use hex_digits::decode;
 use std::fs::Files;
+use vectors::cut;
 
 const LINE_FEED: u8 = 0x0A;
 
@@ -43,10 +44,8 @@ fn agrees(key: &[u8], text: &[u8], cipher: &[u8]) -> bool {
 
 // Whether a line's vector agrees. What stands behind the second space counts as one field.
 fn line_agrees(line: &[u8]) -> bool {
-    let mut fields = line.splitn(3, |b| *b <= SPACE);
-    let key = fields.next().unwrap_or(&[]);
-    let text = fields.next().unwrap_or(&[]);
-    let cipher = fields.next().unwrap_or(&[]);
+    let (key, rest) = cut(line, SPACE);
+    let (text, cipher) = cut(rest, SPACE);
     agrees(key, text, cipher)
 }
 
@@ -61,14 +60,17 @@ fn run<R: Console + Files>(rt: &R, path: &[u8], name: &str) {
     let Some(n) = read_file(rt, path, &mut text) else {
         return;
     };
-    let all = text[..n]
-        .split(|b| *b <= LINE_FEED)
-        .filter(|line| is_vector(line))
-        .count();
-    let agree = text[..n]
-        .split(|b| *b <= LINE_FEED)
-        .filter(|line| is_vector(line) && line_agrees(line))
-        .count();
+    let mut all: u32 = 0;
+    let mut agree: u32 = 0;
+    for piece in text[..n].split_inclusive(|b| *b <= LINE_FEED) {
+        let line = cut(piece, LINE_FEED).0;
+        if is_vector(line) {
+            all = all.wrapping_add(1);
+            if line_agrees(line) {
+                agree = agree.wrapping_add(1);
+            }
+        }
+    }
     let _ = println!(rt; "{agree} of {all}{name} agree");
 }
 

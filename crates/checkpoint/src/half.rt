@@ -4,9 +4,9 @@ ghost use Rattle.octets.specs.Limits.{nonce_length, part_limit};
 ghost use Rattle.octets.specs.Octets.{part, put};
 ghost use Rattle.aes.specs.Cipher.{cipher, aes};
 ghost use Rattle.gcm.specs.Gcm.{AE_tag};
-ghost use Rattle.checkpoint.specs.Checkpoint.{Older, front_words, open_word, empty_length};
+ghost use Rattle.checkpoint.specs.Checkpoint.{Older, front_words, open_word, head_length, empty_length};
 ghost use Rattle.checkpoint.specs.Head.{HeadOf};
-ghost use Rattle.checkpoint.specs.Half.{form_of, stored_packet, kinds_from, good_head, good_tag, stored, stored_open};
+ghost use Rattle.checkpoint.specs.Half.{form_of, stored_packet, open_length, kinds_from, good_head, good_tag, stored, stored_open};
 
 use super::layout::{HEAD_LENGTH, PACKET_LENGTH};
 use aes::cipher::Schedule;
@@ -113,10 +113,11 @@ pub fn good_tag(prepared: &Prepared<'_>, nonce: &[u8], head: &Head<'_>) -> bool
 }
 
 // The open part itself, from byte 28 or 32 of the half on, by the form of its head.
-pub fn open_part<'a>(head: &Head<'a>) -> &'a [u8]
-    ensures { (result.now ≡ stored_open (form_of head.now.half.now) head.now.half.now) × (length result.now ≡ head.now.open_part) }
+pub fn open_part(half: &[u8], start: usize, open: usize) -> &[u8]
+    requires { (good_head part_limit (form_of half.now) half.now ≡ true) × (start ≡ head_length (form_of half.now)) × («open» ≡ open_length (form_of half.now) half.now) }
+    ensures { (result.now ≡ stored_open (form_of half.now) half.now) × (length result.now ≡ «open») }
 {
-    part(head.half, head.start, head.open_part)
+    part(half, start, open)
 }
 
 // Decrypts the secret part to the front of state, where what stands behind it stays.

@@ -162,7 +162,10 @@ fn show(rt: &impl Print, c: Case) {
 fn open_agrees(head: &Head<'_>) -> bool
     requires { head.now.open_part ≤ part_limit }
 {
-    same(open_part(head), part(&first_part(), 0, head.open_part))
+    same(
+        open_part(head.half, head.start, head.open_part),
+        part(&first_part(), 0, head.open_part),
+    )
 }
 
 // Whether the secret part, decrypted, is the one sealed.

@@ -43,10 +43,12 @@ fn check_named(found: Newest, record: &[u8], fram: &[u8], key: &[u8]) -> Result<
     ensures { let half = half_at fram.now (half_named «record».now) in check_number result ≡ then_stop (first_of (look_half key.now «record».now fram.now)) 19 (not_first (newest found) (half_named «record».now) (form_of half) (stored_restarts (form_of half) half)) }
 {
     let number = half_named(record);
-    let Ok(head) = read_head(half_at(fram, number)) else {
-        return Err(Stop::BadHead);
+    let half = half_at(fram, number);
+    let check = check_half(key, part(record, 0, NONCE_LENGTH), half);
+    // a bad head is stop 11 already
+    let Ok(head) = read_head(half) else {
+        return check;
     };
-    let check = check_half(key, part(record, 0, NONCE_LENGTH), &Ok(head));
     // what 19 asks is no secret, so the branch is on it, and the compiled code needs no jump on the tag (hosts/constant_time)
     if not_first(found, number, &head) {
         return check.stop_if(true, Stop::NotFirstSave);
@@ -56,7 +58,7 @@ fn check_named(found: Newest, record: &[u8], fram: &[u8], key: &[u8]) -> Result<
 
 // Passes exactly if some first save, run to its end, leaves this ring and, in its checkpoint's length of half A, these bytes. Else it stops with
 // the first that applies of 1, 2, 3, 6, 7, 11 and 12, as a look does, and 19.
-pub fn factory_check(memories: &Memories<'_>, key: &[u8]) -> Result<(), Stop>
+pub fn factory_check(memories: &Memories<'_, '_>, key: &[u8]) -> Result<(), Stop>
     ensures { check_number result ≡ factory_stop memories.now.ring.now memories.now.fram.now (looks memories.now.pages memories.now.slots key.now) }
 {
     let reading = find(memories, key)?;

@@ -1,11 +1,11 @@
 // What is made of a key before its first use, and overwritten after its last.
-ghost use Rattle.std.specs.Prelude.{◌≡◌, length, replicate};
+ghost use Rattle.std.specs.Prelude.{◌≡◌, length};
 ghost use Rattle.aes.specs.Cipher.{cipher, aes};
 ghost use Rattle.ghash.specs.Steps.{Steps};
 ghost use Rattle.gcm.specs.Gcm.{hash_subkey};
 ghost use Rattle.gcm.specs.Calls.{KeyLength};
 
-use super::tag::hash_steps;
+use super::tag::{hash_steps, wipe_steps};
 use aes::cipher::Schedule;
 use aes::table::round_table;
 use aes::{expand_key, rounds};
@@ -41,11 +41,4 @@ pub fn with_key<T, F: FnMut(&Prepared<'_>) -> T>(key: &[u8], f: &mut F) -> T
     fill(&mut keys, 0);
     wipe_steps(&mut steps);
     answer
-}
-
-// Overwrites the steps, once they are not needed any more. A compiler that sees that nobody reads them again may leave it out.
-fn wipe_steps(steps: &mut [u64])
-    ensures { steps.new ≡ replicate (length steps.old) 0 }
-{
-    steps.fill(0);
 }

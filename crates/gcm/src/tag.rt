@@ -1,5 +1,5 @@
 // The steps of the hash subkey, and the tag of associated data and encrypted text (SP 800-38D, algorithm 4).
-ghost use Rattle.std.specs.Prelude.{◌≡◌, ◌^◌, ◌<◌, length};
+ghost use Rattle.std.specs.Prelude.{◌≡◌, ◌^◌, ◌<◌, length, replicate};
 ghost use Rattle.octets.specs.Limits.{nonce_length};
 ghost use Rattle.aes.specs.Cipher.{cipher};
 ghost use Rattle.ghash.specs.Steps.{Steps};
@@ -37,4 +37,11 @@ pub fn tag_of(prepared: &Prepared<'_>, nonce: &[u8], aad: &[u8], encrypted: &[u8
         &mut t,
     );
     t
+}
+
+// Overwrites the steps, once they are not needed any more. A compiler that sees that nobody reads them again may leave it out.
+pub fn wipe_steps(steps: &mut [u64])
+    ensures { steps.new ≡ replicate (length steps.old) 0 }
+{
+    steps.fill(0);
 }

@@ -1,4 +1,4 @@
-// Jobs and sessions: the empty ones that stand beside a stop, and what is made of a job.
+// Jobs and sessions: the empty ones, which are none that a call goes on with, and what is made of a job.
 ghost use Rattle.std.specs.Prelude.{◌≡◌, ◌<◌};
 ghost use Rattle.protocol.specs.Operations.{no_job, no_session, in_phase, job_record, session_of};
 ghost use Rattle.jobs.specs.View.{view_phase, view_job, view_session};

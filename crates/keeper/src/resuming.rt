@@ -79,7 +79,7 @@ fn first_phase(found: Newest) -> Phase
 
 // Stops 1 to 4 of power-up.
 fn check_power_up_buffers(
-    memories: &Memories<'_>,
+    memories: &Memories<'_, '_>,
     key: &[u8],
     nonce: &[u8],
     staging: &[u8],
@@ -109,7 +109,7 @@ fn check_power_up_half(record: &[u8], fram: &[u8], key: &[u8], used: bool) -> Re
 
 // Whether a power-up would stop, by 1 to 4, 6, 7, 11 to 13, 10 or 4 again. Nothing is stored.
 pub fn power_up_check(
-    memories: &Memories<'_>,
+    memories: &Memories<'_, '_>,
     key: &[u8],
     nonce: &[u8],
     staging: &[u8],
@@ -126,7 +126,7 @@ pub fn power_up_check(
 
 // Where stops 1 to 7 do not apply.
 fn resume(
-    memories: &Memories<'_>,
+    memories: &Memories<'_, '_>,
     reading: &Reading<'_>,
     key: &[u8],
     nonce: &[u8],
@@ -160,7 +160,7 @@ fn resume(
 // the job that stores it, or stops with 1 to 4, 6, 7, 11 to 13, 10 or 4 again. The state may be used once the job has said
 // 'restored'.
 pub fn power_up(
-    memories: &Memories<'_>,
+    memories: &Memories<'_, '_>,
     key: &[u8],
     nonce: &[u8],
     staging: &mut [u8],

@@ -9,6 +9,10 @@ use octets::limits::PART_LIMIT;
 use octets::part;
 use stops::Stop;
 
+// A FRAM longer than the longest, with nothing in it. A start reads of a FRAM its length alone, so it stands in the program's constants and not
+// on the stack.
+const IMAGE: [u8; 262_152] = [0; 262_152];
+
 // Prints a line of what a start said.
 fn say<T: Drop>(rt: &impl Print, name: &str, started: Result<T, Stop>) {
     print(rt, name.as_bytes());
@@ -58,14 +62,13 @@ fn try_first_save(
     requires { (pages ≤ 33) × (fram ≤ 262152) × («open» ≤ 32772) × (secret ≤ 32772) }
 {
     let ring = [0xFFu8; 1056];
-    let image = [0u8; 262_152];
     let bytes = [0u8; 32_772];
     begin(
         rt,
         name,
         pages,
         part(&ring, 0, 32 * pages),
-        part(&image, 0, fram),
+        part(&IMAGE, 0, fram),
         from_tag(&starting_tag()),
         packet,
         part(&bytes, 0, open),

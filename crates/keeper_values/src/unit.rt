@@ -11,7 +11,7 @@ use ring_line::ring_line;
 use stops::Stop;
 
 // The unit's memories, as the keeper's calls read them.
-fn memories<'a>(ring: &'a [u8], fram: &'a [u8]) -> Memories<'a> {
+fn memories<'r, 'f>(ring: &'r [u8], fram: &'f [u8]) -> Memories<'r, 'f> {
     Memories {
         pages: PAGES,
         slots: SLOTS,

@@ -1,5 +1,5 @@
--- What is found of the ring, and read and seen of a half.
-use Rattle.std.specs.Prelude.{ℕ, ◌+◌, ◌*◌, ◌≡◌, List, Result, Ok, Err}
+-- What is found of the ring, and seen of a half.
+use Rattle.std.specs.Prelude.{ℕ, ◌+◌, ◌*◌, ◌≡◌, List, Result, Ok}
 use Rattle.std.proofs.Math.Option.{Option}
 use Rattle.stops.specs.declared.Stop.{Stop}
 use Rattle.stops.specs.Stops.{first_of}
@@ -7,8 +7,6 @@ use Rattle.stops.specs.View.{check_number}
 use Rattle.ring.specs.declared.found.Reading.{Reading}
 use Rattle.memories.specs.Read.{ReadFrom}
 use Rattle.checkpoint.specs.Checkpoint.{head_length}
-use Rattle.checkpoint.specs.declared.half.Head.{Head}
-use Rattle.checkpoint.specs.declared.half.BadHead.{BadHead}
 use Rattle.checkpoint.specs.Fram.{half_length, half_at}
 use Rattle.checkpoint.specs.Half.{form_of, open_length, stored_restarts}
 use Rattle.protocol.specs.Operations.{look_by, stretch_by}
@@ -20,11 +18,6 @@ use Rattle.look.specs.declared.types.Seen.{Seen}
 pub record Finds (f : Result Reading Stop) (pages slots : ℕ) (ring fram key : List ℕ) : Type 0 where
   pub stop : check_number f ≡ first_of (look_ring pages slots ring fram key)
   pub reads : (r : Reading) → f ≡ Ok r → ReadFrom r pages slots ring
-
--- the half whose head was read
-abbrev pub half_read : Result Head BadHead → List ℕ
-half_read (Ok h) = h.half.now
-half_read (Err b) = b.half.now
 
 -- for the stop o that look has of a half: the restarts that its head says, and where its open part lies
 pub record Sees (s : Result Seen Stop) (o : Option ℕ) (fram : List ℕ) (half : ℕ) : Type 0 where

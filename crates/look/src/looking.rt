@@ -10,11 +10,12 @@ ghost use Rattle.checkpoint.specs.Fram.{fram_wrong};
 ghost use Rattle.protocol.specs.Operations.{look, open_stretch, stretch_of};
 ghost use Rattle.look.specs.View.{view_looked, view_seen, view_stretch, looks};
 ghost use Rattle.look.specs.Stages.{of_half, look_half};
-ghost use Rattle.look.specs.Seen.{Finds, half_read, Sees};
+ghost use Rattle.look.specs.Seen.{Finds, Sees};
 
 use crate::types::Seen;
 use checkpoint::fram::half_at;
-use checkpoint::half::{BadHead, Head, read_head};
+use checkpoint::half::read_head;
+use checkpoint::layout::{EMPTY_LENGTH, PACKET_LENGTH};
 use checkpoint::under::good_tag_under;
 use gcm::key_wrong;
 use memories::{Memories, check_newest};
@@ -23,19 +24,19 @@ use octets::part;
 use ring::{Reading, half_named};
 use stops::{Stop, StopIf};
 
-// Stops 11 and 12 of a half, by what was read of its head.
-pub fn check_half(
-    key: &[u8],
-    nonce: &[u8],
-    read: &Result<Head<'_>, BadHead<'_>>,
-) -> Result<(), Stop>
+// Stops 11 and 12 of a half.
+pub fn check_half(key: &[u8], nonce: &[u8], half: &[u8]) -> Result<(), Stop>
     requires { KeyLength (length key.now) × (length nonce.now ≡ nonce_length) }
-    ensures { check_number result ≡ first_of (of_half key.now nonce.now (half_read read.now)) }
+    ensures { check_number result ≡ first_of (of_half key.now nonce.now half.now) }
 {
-    let Ok(head) = read else {
+    // no checkpoint fits, and read_head asks for room for a head
+    if half.len() < EMPTY_LENGTH - PACKET_LENGTH {
+        return Err(Stop::BadHead);
+    }
+    let Ok(head) = read_head(half) else {
         return Err(Stop::BadHead);
     };
-    let good = good_tag_under(key, nonce, head);
+    let good = good_tag_under(key, nonce, &head);
     Ok(()).stop_if(!good, Stop::TagDiffers)
 }
 
@@ -45,10 +46,12 @@ fn see_half(record: &[u8], fram: &[u8], key: &[u8]) -> Result<Seen, Stop>
     ensures { Sees result (first_of (look_half key.now «record».now fram.now)) fram.now (half_named «record».now) }
 {
     let number = half_named(record);
-    let Ok(head) = read_head(half_at(fram, number)) else {
+    let half = half_at(fram, number);
+    check_half(key, part(record, 0, NONCE_LENGTH), half)?;
+    // not reached: stop 11 came before
+    let Ok(head) = read_head(half) else {
         return Err(Stop::BadHead);
     };
-    check_half(key, part(record, 0, NONCE_LENGTH), &Ok(head))?;
     Ok(Seen {
         restarts: head.restarts,
         offset: number * (fram.len() / 2) + head.start,
@@ -57,7 +60,7 @@ fn see_half(record: &[u8], fram: &[u8], key: &[u8]) -> Result<Seen, Stop>
 }
 
 // What the ring reads as, where stops 1, 2, 3, 6 and 7 do not apply.
-pub fn find<'a>(memories: &Memories<'a>, key: &[u8]) -> Result<Reading<'a>, Stop>
+pub fn find<'r>(memories: &Memories<'r, '_>, key: &[u8]) -> Result<Reading<'r>, Stop>
     ensures { Finds result memories.now.pages memories.now.slots memories.now.ring.now memories.now.fram.now key.now }
 {
     memories
@@ -69,7 +72,7 @@ pub fn find<'a>(memories: &Memories<'a>, key: &[u8]) -> Result<Reading<'a>, Stop
 }
 
 // What look answers, and where the open part lies in the FRAM image; or look's stop.
-pub fn see(memories: &Memories<'_>, key: &[u8]) -> Result<Seen, Stop>
+pub fn see(memories: &Memories<'_, '_>, key: &[u8]) -> Result<Seen, Stop>
     ensures { (view_seen result ≡ look this_firmware memories.now.ring.now memories.now.fram.now (looks memories.now.pages memories.now.slots key.now)) × (view_stretch result ≡ open_stretch this_firmware memories.now.ring.now memories.now.fram.now (looks memories.now.pages memories.now.slots key.now)) }
 {
     let reading = find(memories, key)?;
@@ -77,14 +80,14 @@ pub fn see(memories: &Memories<'_>, key: &[u8]) -> Result<Seen, Stop>
 }
 
 // Answers the restarts of the newest checkpoint, or stops with 1, 2, 3, 6, 7, 11 or 12.
-pub fn look(memories: &Memories<'_>, key: &[u8]) -> Result<usize, Stop>
+pub fn look(memories: &Memories<'_, '_>, key: &[u8]) -> Result<usize, Stop>
     ensures { view_looked result ≡ look this_firmware memories.now.ring.now memories.now.fram.now (looks memories.now.pages memories.now.slots key.now) }
 {
     Ok(see(memories, key)?.restarts)
 }
 
 // The open part of the newest checkpoint, as that stretch of the FRAM image; an empty stretch where look stops.
-pub fn open_part<'a>(memories: &Memories<'a>, key: &[u8]) -> &'a [u8]
+pub fn open_part<'f>(memories: &Memories<'_, 'f>, key: &[u8]) -> &'f [u8]
     ensures { result.now ≡ stretch_of memories.now.fram.now (open_stretch this_firmware memories.now.ring.now memories.now.fram.now (looks memories.now.pages memories.now.slots key.now)) }
 {
     match see(memories, key) {

@@ -14,16 +14,17 @@ use checkpoint::fram::fram_wrong;
 use ring::{Newest, Reading, Ring, ring_wrong};
 use stops::{Stop, StopIf};
 
-// A ring of so many pages of so many slots, and the FRAM, as images.
+// A ring of so many pages of so many slots, and the FRAM, as images. Each is lent for a time of its own: what is handed back of the one keeps
+// nothing of the other.
 #[derive(Clone, Copy)]
-pub struct Memories<'a> {
+pub struct Memories<'r, 'f> {
     pub pages: usize,
     pub slots: usize,
-    pub ring: &'a [u8],
-    pub fram: &'a [u8],
+    pub ring: &'r [u8],
+    pub fram: &'f [u8],
 }
 
-impl<'a> Memories<'a> {
+impl<'r, 'f> Memories<'r, 'f> {
     // Stops 1 and 2.
     pub fn check(&self) -> Result<(), Stop>
         ensures { check_number result ≡ first_of (of_memories self.now.pages self.now.slots self.now.ring.now self.now.fram.now) }
@@ -37,7 +38,7 @@ impl<'a> Memories<'a> {
     }
 
     // What the ring reads as, where stop 1 does not apply.
-    pub fn read(&self) -> Reading<'a>
+    pub fn read(&self) -> Reading<'r>
         requires { ring_wrong self.now.pages self.now.slots self.now.ring.now ≡ false }
         ensures { ReadFrom result self.now.pages self.now.slots self.now.ring.now }
     {

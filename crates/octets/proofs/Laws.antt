@@ -6,11 +6,11 @@ use mathlib.Core.Logic.{◌⊎◌, inl, inr}
 use mathlib.Core.List.{List, [], ◌∷◌, ◌++◌, append_assoc}
 use native.Mathlib.Nat.{suc-add, zero-add, add_assoc}
 use native.Mathlib.Omega.{arith}
-use lib.ListN.{length, take, drop, get_or, length-append, length-take, length-drop, take-append-drop, get_or-append, replicate-append-replicate}
+use native.Mathlib.Numerals.{add-one}
+use lib.ListN.{length, take, drop, get_or, length-append, length-take, length-drop, take-append-drop, drop_of_length-le, get_or-append, replicate-append-replicate}
 use lib.Dec.{eqb, ltb}
-use lib.Seq.{take-append-le, drop-append-le, drop-append-add, take-append-add, take-take, drop-drop, take_all, take-nil, length-take-le, get_or-take, get_or-drop, get_or-append-add, ext_get_or}
-use borrow.Author.Tests.{eqb-true, eq-eqb, ltb-true, ltb-false}
-use Rattle.std.specs.List.{list_all}
+use lib.Seq.{take-append-le, drop-append-le, drop-append-add, take-append-add, take-take, drop-drop, drop-cons, take_all, take-nil, length-take-le, get_or-take, get_or-drop, get_or-append-add, ext_get_or}
+use borrow.Author.Tests.{eqb-true, eq-eqb, ne_eqb, ltb-true, ltb-false}
 use Rattle.octets.specs.Octets.{part, put, same, blank, erased}
 
 -- ---- parts
@@ -254,8 +254,15 @@ blank_part xs i n b =
     let d : blank (drop i xs) ≡ true = (blank_both (take i xs) (drop i xs) (rw take-append-drop b)).1 in
     (blank_both (take n (drop i xs)) (drop n (drop i xs)) (rw take-append-drop d)).0
 
--- as `all` says it
-pub blank_is : (xs : List ℕ) → blank xs ≡ list_all (λ x. eqb x 0xFF) xs
+-- how `blank` goes from one offset to the next
+pub blank_stops : (xs : List ℕ) (i : ℕ) → i < length xs → (get_or xs i 0 ≡ 0xFF → ⊥) → blank (drop i xs) ≡ false
 unfolding blank
-blank_is [] = refl
-blank_is (x ∷ xs) = ap (λ t. eqb x 0xFF && t) (blank_is xs)
+blank_stops xs i h n = rw (drop-cons xs i 0, ne_eqb (get_or xs i 0) 0xFF)
+
+pub blank_goes : (xs : List ℕ) (i : ℕ) → i < length xs → get_or xs i 0 ≡ 0xFF → blank (drop i xs) ≡ blank (drop (i + 1) xs)
+unfolding blank
+blank_goes xs i h e = rw (add-one, drop-cons xs i 0, eq-eqb (get_or xs i 0) 0xFF)
+
+pub blank_ends : (xs : List ℕ) (i : ℕ) → length xs ≤ i → blank (drop i xs) ≡ true
+unfolding blank
+blank_ends xs i h = rw drop_of_length-le

@@ -24,7 +24,7 @@ fn begin(
     rt: &impl Print,
     unit: &mut Unit,
     resumes: bool,
-    memories: &Memories<'_>,
+    memories: &Memories<'_, '_>,
     staging: &mut [u8],
 ) {
     if resumes {
@@ -83,7 +83,7 @@ fn cut_unit(rt: &impl Print, unit: &mut Unit, k: usize, ring: &mut [u8], fram: &
     cut_power(rt, unit, c.left, seed, ring, fram, &staging);
 }
 
-fn print_resumed(rt: &impl Print, unit: &Unit, memories: &Memories<'_>, state: &[u8]) {
+fn print_resumed(rt: &impl Print, unit: &Unit, memories: &Memories<'_, '_>, state: &[u8]) {
     print(rt, open_part(memories, &key()));
     print(rt, b" ");
     if let Some(secret) = state.get(..PART) {

@@ -26,7 +26,7 @@ pub struct Unit {
 }
 
 // The unit's memories, as the keeper's calls read them.
-pub fn memories<'a>(ring: &'a [u8], fram: &'a [u8]) -> Memories<'a> {
+pub fn memories<'r, 'f>(ring: &'r [u8], fram: &'f [u8]) -> Memories<'r, 'f> {
     Memories {
         pages: PAGES,
         slots: SLOTS,
@@ -55,7 +55,7 @@ fn stands_at(bytes: &[u8], memory: &[u8], at: usize) -> bool {
 
 // Whether the memories, the open part of the newest checkpoint in them and the state are as the book has them. Records go round the slots, and
 // to A and B in turn.
-fn stands(book: &Book, memories: &Memories<'_>, state: &[u8]) -> bool {
+fn stands(book: &Book, memories: &Memories<'_, '_>, state: &[u8]) -> bool {
     let Some(entry) = book.entry else {
         return false;
     };
@@ -96,7 +96,7 @@ impl Unit {
     }
 
     // Begins a save.
-    pub fn begin_save(&mut self, memories: &Memories<'_>, staging: &mut [u8]) {
+    pub fn begin_save(&mut self, memories: &Memories<'_, '_>, staging: &mut [u8]) {
         self.saves = self.saves.saturating_add(1);
         self.starts = self.starts.saturating_add(1);
         let draft = Draft {
@@ -124,7 +124,7 @@ impl Unit {
     fn begin_with(
         &mut self,
         number: usize,
-        memories: &Memories<'_>,
+        memories: &Memories<'_, '_>,
         staging: &mut [u8],
         state: &mut [u8],
     ) {
@@ -147,7 +147,7 @@ impl Unit {
     // Begins a power-up.
     pub fn begin_power_up(
         &mut self,
-        memories: &Memories<'_>,
+        memories: &Memories<'_, '_>,
         staging: &mut [u8],
         state: &mut [u8],
     ) {
@@ -158,7 +158,7 @@ impl Unit {
     // A power-up with the nonce of the newest record, which is used: a worn unit stops with 13 all the same.
     pub fn try_used_nonce(
         &mut self,
-        memories: &Memories<'_>,
+        memories: &Memories<'_, '_>,
         staging: &mut [u8],
         state: &mut [u8],
     ) {
@@ -189,7 +189,7 @@ impl Unit {
     }
 
     // Holds what a power-up left against the book.
-    pub fn compare(&mut self, memories: &Memories<'_>, state: &[u8]) {
+    pub fn compare(&mut self, memories: &Memories<'_, '_>, state: &[u8]) {
         self.agrees &= stands(&self.book, memories, state);
     }
 

@@ -70,7 +70,7 @@ fn reopen(
         packet: head.packet,
         restarts: head.restarts + 1,
         previous: part(head.half, end, TAG_LENGTH),
-        open_part: open_part(&head),
+        open_part: open_part(head.half, head.start, head.open_part),
         secret: part(state, 0, head.secret),
     };
     seal(prepared, &unsealed, staging)

@@ -60,7 +60,7 @@ fn begin_save(key: &[u8], unsealed: &Unsealed<'_>, staging: &mut [u8], target: T
 
 // Stops 1 to 4 and 18.
 fn check_buffers(
-    memories: &Memories<'_>,
+    memories: &Memories<'_, '_>,
     draft: &Draft<'_>,
     from: From,
     staging: &[u8],
@@ -123,7 +123,7 @@ fn larger(a: usize, b: usize) -> usize
 // With a starting tag, where stops 1 to 4 and 18 do not apply: half A, page 0, slot 0.
 fn save_first(
     starting_tag: [u8; TAG_LENGTH],
-    memories: &Memories<'_>,
+    memories: &Memories<'_, '_>,
     draft: &Draft<'_>,
     staging: &mut [u8],
 ) -> Result<Job, Stop>
@@ -151,7 +151,7 @@ fn save_first(
 // With a session, where stops 1 to 4 and 18 do not apply: the half that the newest record does not name, and the next target.
 fn save_next(
     session: Session,
-    memories: &Memories<'_>,
+    memories: &Memories<'_, '_>,
     draft: &Draft<'_>,
     staging: &mut [u8],
 ) -> Result<Job, Stop>
@@ -181,7 +181,7 @@ impl From {
     // Whether a save would stop, by 1 to 10 or 18. Nothing is stored.
     pub fn save_check(
         self,
-        memories: &Memories<'_>,
+        memories: &Memories<'_, '_>,
         draft: &Draft<'_>,
         staging: &[u8],
     ) -> Result<(), Stop>
@@ -200,7 +200,7 @@ impl From {
     // session by 1 to 4, 6 to 10 or 18.
     pub fn save(
         self,
-        memories: &Memories<'_>,
+        memories: &Memories<'_, '_>,
         draft: &Draft<'_>,
         staging: &mut [u8],
     ) -> Result<Job, Stop>

@@ -83,7 +83,12 @@ fn kind_wrong(list: &[u8], i: usize) -> bool
 fn some_kind_wrong(list: &[u8]) -> bool
     ensures { result ≡ some_below (count list.now) (kind_wrong list.now) }
 {
-    (1..list.len() / 4).any(|i| kind_wrong(list, i))
+    for i in 1..list.len() / 4 {
+        if kind_wrong(list, i) {
+            return true;
+        }
+    }
+    false
 }
 
 // Stop 24. Where kinds rise from 1 on, the first two are 1 and 2, or one of these is missing.

@@ -1,5 +1,5 @@
 -- `factory::check_named` meets its contract. Assumes nothing.
-use mathlib.Core.Path.{◌≡◌, refl, ap, ◌∙◌}
+use mathlib.Core.Path.{◌≡◌, refl, sym, ap, ◌∙◌}
 use mathlib.Core.Bool.{Bool, false}
 use mathlib.Core.Option.{Option, none, some}
 use mathlib.Core.List.{List}
@@ -36,25 +36,28 @@ pub read_head-requires : goal.read_head-requires
 unfolding half_length
 read_head-requires c =
     let z = an_image fram_limit c.args.fram.now c.requires.0 in
-    omega (arith, c.half_at.ensures.1)
+    omega (arith, c.half_at-half.ensures.1)
 
 pub returns-in_default : goal.returns-in_default
 returns-in_default c =
     let a = c.args in
-    stays _ 11 19 _ (bad_head a.key.now a.«record».now a.fram.now _ _ c.half_named-number.ensures (c.in_default.ensures ∙ c.half_at.ensures.0) c.in_default.field-0.says.good)
+    let there = c.half_at-half.ensures.0 in
+    let checked = half_checked a.key.now a.«record».now a.fram.now _ _ _ _ c.half_named-number.ensures there c.part.ensures.0 c.check_half-check.ensures in
+    let bad = bad_head a.key.now a.«record».now a.fram.now _ _ c.half_named-number.ensures (c.in_default.ensures ∙ there) c.in_default.field-0.says.good in
+    checked ∙ sym bad ∙ stays _ 11 19 _ bad
 
 pub returns-then-not_first : goal.returns-then-not_first
 returns-then-not_first c =
     let a = c.args in
-    let there = c.in-Ok.ensures ∙ c.half_at.ensures.0 in
-    let checked = half_checked a.key.now a.«record».now a.fram.now _ _ _ _ c.half_named-number.ensures there c.part.ensures.0 c.check_half-check.ensures in
+    let there = c.in-Ok.ensures ∙ c.half_at-half.ensures.0 in
+    let checked = half_checked a.key.now a.«record».now a.fram.now _ _ _ _ c.half_named-number.ensures c.half_at-half.ensures.0 c.part.ensures.0 c.check_half-check.ensures in
     let wrong = c.if-not_first.ensures ∙ first_check (newest a.found) a.«record».now a.fram.now _ _ c.half_named-number.ensures there in
     c.stop_if.ensures ∙ (λ i. then_stop (checked i) 19 (wrong i))
 
 pub returns : goal.returns
 returns c =
     let a = c.args in
-    let there = c.in-Ok.ensures ∙ c.half_at.ensures.0 in
-    let checked = half_checked a.key.now a.«record».now a.fram.now _ _ _ _ c.half_named-number.ensures there c.part.ensures.0 c.check_half-check.ensures in
+    let there = c.in-Ok.ensures ∙ c.half_at-half.ensures.0 in
+    let checked = half_checked a.key.now a.«record».now a.fram.now _ _ _ _ c.half_named-number.ensures c.half_at-half.ensures.0 c.part.ensures.0 c.check_half-check.ensures in
     let wrong = c.if-not_first.ensures ∙ first_check (newest a.found) a.«record».now a.fram.now _ _ c.half_named-number.ensures there in
     checked ∙ none_more _ 19 ∙ ap (then_stop _ 19) wrong

@@ -7,12 +7,9 @@ use Rattle.checkpoint.proofs.StoredLaws.{head_facts}
 use Rattle.checkpoint.proofs.half.open_part.Goals as goal
 
 pub part-requires : goal.part-requires
-part-requires c =
-    let h = c.args.head.now in
-    omega (arith, (head_facts part_limit (form_of h.half.now) h.half.now h.says.good).fits, h.says.start_is, h.says.open_is)
+part-requires c = omega (arith, (head_facts part_limit (form_of c.args.half.now) c.args.half.now c.requires.0).fits, c.requires.1, c.requires.2)
 
 pub returns : goal.returns
 unfolding stored_open
 returns c =
-    let h = c.args.head.now in
-    (c.part.ensures.0 ∙ (λ i. part h.half.now (h.says.start_is i) (h.says.open_is i)), c.part.ensures.1)
+    (c.part.ensures.0 ∙ (λ i. part c.args.half.now (c.requires.1 i) (c.requires.2 i)), c.part.ensures.1)

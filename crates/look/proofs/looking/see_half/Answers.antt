@@ -37,7 +37,7 @@ pub read_head-requires : goal.read_head-requires
 unfolding half_length
 read_head-requires c =
     let z = an_image fram_limit c.args.fram.now c.requires.0 in
-    omega (arith, c.half_at.ensures.1)
+    omega (arith, c.half_at-half.ensures.1)
 
 pub overflow_mul-result : goal.overflow_mul-result
 unfolding half_length
@@ -56,13 +56,13 @@ overflow_add-result c =
 pub returns-in_default : goal.returns-in_default
 returns-in_default c =
     let a = c.args in
-    stopped a.«record».now a.fram.now _ c.half_named-number.ensures _ c.half_at.ensures.0 _
-    (bad_head a.key.now a.«record».now a.fram.now _ _ c.half_named-number.ensures (c.in_default.ensures ∙ c.half_at.ensures.0) c.in_default.field-0.says.good)
+    stopped a.«record».now a.fram.now _ c.half_named-number.ensures _ c.half_at-half.ensures.0 _
+    (bad_head a.key.now a.«record».now a.fram.now _ _ c.half_named-number.ensures (c.in_default.ensures ∙ c.half_at-half.ensures.0) c.in_default.field-0.says.good)
 
 pub returns-in_err-check_half : goal.returns-in_err-check_half
 returns-in_err-check_half c =
     let a = c.args in
-    let there = c.in-Ok.ensures ∙ c.half_at.ensures.0 in
+    let there = c.half_at-half.ensures.0 in
     let p = err_from_is_err_and c.from_residual.result c.from_residual.ensures.1 in
     rw (p.1, p.2)
     (stopped a.«record».now a.fram.now _ c.half_named-number.ensures _ there _
@@ -72,8 +72,8 @@ pub returns : goal.returns
 unfolding half_length
 returns c =
     let a = c.args in
-    let there = c.in-Ok.ensures ∙ c.half_at.ensures.0 in
+    let there = c.in-Ok.ensures ∙ c.half_at-half.ensures.0 in
     let says = c.in-Ok.head.says in
     found a.«record».now a.fram.now _ c.half_named-number.ensures _ there _ _ _
-    (half_checked a.key.now a.«record».now a.fram.now _ _ _ _ c.half_named-number.ensures there c.part.ensures.0 c.in_ok-check_half.ensures)
+    (half_checked a.key.now a.«record».now a.fram.now _ _ _ _ c.half_named-number.ensures c.half_at-half.ensures.0 c.part.ensures.0 c.in_ok-check_half.ensures)
     says.restarts_is says.start_is says.open_is
