@@ -139,14 +139,12 @@ fn stop_in(line: &[u8], k: usize) -> u32 {
 }
 
 // The bytes that key, nonce, associated data and text are taken from: 7 times their offset, and 1.
-fn pattern() -> [u8; LONGEST] {
-    let mut p = [0u8; LONGEST];
+fn pattern(p: &mut [u8]) {
     let mut b = 1u8;
     for x in p.iter_mut() {
         *x = b;
         b = b.wrapping_add(7);
     }
-    p
 }
 
 // Whether every byte is 0xEE, as before a call.
@@ -224,7 +222,8 @@ fn open_limit(
 // What is sealed is opened again. Nothing may be written behind the text, nor where a call stops.
 fn limit_agrees(line: &[u8]) -> bool {
     let n = lengths_of(line);
-    let p = pattern();
+    let mut p = [0u8; LONGEST];
+    pattern(&mut p);
     let mut out = [0xEEu8; LONGEST];
     let Some(tag) = seal_limit(line, &n, &p, &mut out) else {
         return false;

@@ -1,4 +1,4 @@
--- What a start and an advance leave behind each pointer, by what they say; the laws of the calls are said with it, and no contract names it.
+-- What a start and an advance leave behind each pointer, by what they say, and what the bytes of `from` are; no call's contract names it.
 use Rattle.std.specs.Prelude.{ℕ, Bool, true, false, cond, List, eqb, length}
 use Rattle.protocol.specs.Types.{Job, Start, Begun, Stopped, Progress, GoingOn, Saved, Restored, Refused}
 use Rattle.protocol.specs.Calls.{From, from_tag, from_session}

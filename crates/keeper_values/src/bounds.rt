@@ -9,8 +9,8 @@ use octets::limits::PART_LIMIT;
 use octets::part;
 use stops::Stop;
 
-// A FRAM longer than the longest, with nothing in it. A start reads of a FRAM its length alone, so it stands in the program's constants and not
-// on the stack.
+// A FRAM longer than the longest, with nothing in it. A first save reads of a FRAM its length alone, so this one stands in the program's
+// constants and not on the stack.
 const IMAGE: [u8; 262_152] = [0; 262_152];
 
 // Prints a line of what a start said.
